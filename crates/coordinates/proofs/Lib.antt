@@ -1,0 +1,4 @@
+pub mod Patterns
+pub mod Gathered
+pub mod IeeeBits
+pub mod Edges

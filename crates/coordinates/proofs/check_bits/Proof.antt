@@ -1,0 +1,22 @@
+-- `coordinates::check_bits` meets its contract: the largest magnitude decides both tests.
+-- Assumes nothing.
+use mathlib.Core.Path.{ap, _∙_}
+use borrow.Author.Needs.{needs}
+use Rattle.coordinates.proofs.Gathered.{judged-largest}
+use Rattle.coordinates.specs.Largest.{judged}
+use Rattle.coordinates.proofs.check_bits.Statement.{statement}
+use Rattle.coordinates.proofs.check_bits.Tie as tie
+
+largest-of-requires : tie.Need-largest-of-requires
+largest-of-requires c κs = search needs
+
+judge-requires : tie.Need-judge-requires
+judge-requires c κs = search needs
+
+returns : tie.Need-returns
+returns c =
+    let a = c .before .before .before .args in
+    c .judge .ensures ∙ ap (judged (a .cosine)) (c .before .largest-of .ensures) ∙ judged-largest (a .cosine) (a .c .now)
+
+pub check-bits-spec : {M : Type 1} → statement M
+check-bits-spec = tie.close (tie.spec largest-of-requires judge-requires returns)

@@ -1,0 +1,78 @@
+-- Bytes into the register: their order, their linearity, and the CRC's bound.
+-- Assumes nothing.
+use mathlib.Core.Path.{_≡_, refl, sym, ap, ap₂, _∙_}
+use mathlib.Core.List.{List, [], _∷_, _++_}
+use Prim.Native.Nat.{ℕ, zero, suc, _+_, _*_, _/_, _%_, _^_, _<_}
+use native.Mathlib.Omega.{arith}
+use native.Mathlib.Nat.{pow-suc}
+use lib.Bits.{differ, bitXor, xor-lt, xor-zero-r}
+use lib.ListN.{length}
+use lib.Arith.{lt-one}
+use Rattle.crc32.specs.Crc.{polynomial, allOnes, bitIn, bitsIn, bytesIn, crcOf}
+use Rattle.crc32.specs.Steps.{shift, shifts, turns}
+use Rattle.crc32.proofs.Xor.{bit-lt, differ-lt, differ-assoc, xor-half, xor-odd, xor-assoc, xor4}
+use Rattle.crc32.proofs.Shift.{bit-times}
+
+-- the bytes of two parts go in one part after the other
+pub bytesIn-append : (c : ℕ) (a b : List ℕ) → bytesIn c (a ++ b) ≡ bytesIn (bytesIn c a) b
+unfolding bytesIn
+bytesIn-append c [] b = refl
+bytesIn-append c (x ∷ a) b = bytesIn-append (bitsIn 8 c x) a b
+
+pub bitIn-lt : (c d : ℕ) → c < 4294967296 → d < 2 → bitIn c d < 4294967296
+unfolding bitIn
+bitIn-lt c d h k =
+    let p : differ (c % 2) d * polynomial < 4294967296 = omega (arith, differ-lt (c % 2) d (bit-lt c) k) in
+    let q : c / 2 < 4294967296 = omega arith in
+    xor-lt 32 (differ (c % 2) d * polynomial) (c / 2) p q
+
+pub bitsIn-lt : (k c b : ℕ) → c < 4294967296 → bitsIn k c b < 4294967296
+unfolding bitsIn
+bitsIn-lt zero c b h = h
+bitsIn-lt (suc k) c b h = bitsIn-lt k (bitIn c (b % 2)) (b / 2) (bitIn-lt c (b % 2) h (bit-lt b))
+
+pub bytesIn-lt : (c : ℕ) (bs : List ℕ) → c < 4294967296 → bytesIn c bs < 4294967296
+unfolding bytesIn
+bytesIn-lt c [] h = h
+bytesIn-lt c (b ∷ bs) h = bytesIn-lt (bitsIn 8 c b) bs (bitsIn-lt 8 c b h)
+
+-- of any list: no element need be below 256
+pub crc-lt : (bs : List ℕ) → crcOf bs < 4294967296
+unfolding crcOf
+crc-lt bs = xor-lt 32 (bytesIn allOnes bs) allOnes (bytesIn-lt allOnes bs (omega arith)) (omega arith)
+
+-- a part x of the register goes on as if zero bits came in
+pub bitIn-xor : (x y d : ℕ) → d < 2 → bitIn (bitXor x y) d ≡ bitXor (shift x) (bitIn y d)
+unfolding bitIn shift
+bitIn-xor x y d h =
+    ap₂ (λ (p q : ℕ). bitXor (differ p d * polynomial) q) (xor-odd x y) (xor-half x y)
+    ∙ ap (λ (p : ℕ). bitXor (p * polynomial) (bitXor (x / 2) (y / 2))) (differ-assoc (x % 2) (y % 2) d (bit-lt x) (bit-lt y) h)
+    ∙ ap (λ (p : ℕ). bitXor p (bitXor (x / 2) (y / 2)))
+    (bit-times (x % 2) (differ (y % 2) d) polynomial (bit-lt x) (differ-lt (y % 2) d (bit-lt y) h))
+    ∙ xor4 (x % 2 * polynomial) (differ (y % 2) d * polynomial) (x / 2) (y / 2)
+
+pub bitsIn-xor : (k x y b : ℕ) → bitsIn k (bitXor x y) b ≡ bitXor (shifts k x) (bitsIn k y b)
+unfolding bitsIn shifts
+bitsIn-xor zero x y b = refl
+bitsIn-xor (suc k) x y b =
+    ap (λ (c : ℕ). bitsIn k c (b / 2)) (bitIn-xor x y (b % 2) (bit-lt b)) ∙ bitsIn-xor k (shift x) (bitIn y (b % 2)) (b / 2)
+
+pub bytesIn-xor : (x y : ℕ) (bs : List ℕ) → bytesIn (bitXor x y) bs ≡ bitXor (turns 8 (length bs) x) (bytesIn y bs)
+unfolding bytesIn turns
+bytesIn-xor x y [] = refl
+bytesIn-xor x y (b ∷ bs) = ap (λ (c : ℕ). bytesIn c bs) (bitsIn-xor 8 x y b) ∙ bytesIn-xor (shifts 8 x) (bitsIn 8 y b) bs
+
+-- so the register at the start may be put in at the end
+pub bytesIn-start : (c : ℕ) (bs : List ℕ) → bytesIn c bs ≡ bitXor (turns 8 (length bs) c) (bytesIn 0 bs)
+bytesIn-start c bs = ap (λ (x : ℕ). bytesIn x bs) (sym (xor-zero-r c)) ∙ bytesIn-xor c 0 bs
+
+-- the bits of a number below 2 ^ k may go in at once
+pub bits-in : (k c b : ℕ) → b < 2 ^ k → bitsIn k c b ≡ shifts k (bitXor c b)
+unfolding bitsIn shifts bitIn shift
+bits-in zero c b h = sym (ap (bitXor c) (lt-one h) ∙ xor-zero-r c)
+bits-in (suc k) c b h =
+    let half : b / 2 < 2 ^ k = omega (arith, pow-suc 2 k) in
+    bits-in k (bitIn c (b % 2)) (b / 2) half
+    ∙ ap (shifts k)
+    (xor-assoc (differ (c % 2) (b % 2) * polynomial) (c / 2) (b / 2)
+    ∙ sym (ap₂ (λ (x y : ℕ). bitXor (x * polynomial) y) (xor-odd c b) (xor-half c b)))

@@ -1,0 +1,6 @@
+pub mod Parts
+pub mod Numbers
+pub mod Readers
+pub mod Writers
+pub mod WriteOn
+pub mod Edges

@@ -1,0 +1,111 @@
+-- Each call that is offered to users: what it answers and what its lent memory holds after, refused or not, as a function of what is
+-- handed in. The contracts of the code cite these.
+use Prim.Native.Nat.{ℕ, _+_, _*_, _-_}
+use mathlib.Core.Bool.{Bool, true, false, cond}
+use mathlib.Core.List.{List, [], _∷_, _++_}
+use lib.ListN.{length, drop}
+use lib.Dec.{ltb, eqb}
+use Rattle.config.specs.declared.Config.{Config}
+use Rattle.rows.specs.Lent.{rowsLent}
+use Rattle.meaning.specs.Refusal.{Refusal, number, Result, answer, refused}
+use Rattle.meaning.specs.Replay.{size}
+use Rattle.meaning.specs.Rows.{Row, rowKind}
+use Rattle.meaning.specs.Snapshot.{Snapshot, readSnapshot}
+use Rattle.meaning.specs.Recovery.{Recovery, recovered, refusedSnapshot, refusedLog, Recovered, recover, liveCount, rowsOf, recordCount, activeCount, sizeOf, tailLength}
+use Rattle.meaning.specs.Tables.{rowWords, activeNodes, filled}
+use Rattle.meaning.specs.Writer.{Extent, write}
+use Rattle.meaning.specs.Encoder.{Shape, encode, deleteFrame}
+
+-- ---- reading and recovery: two lent tables, row words and active entries
+pub record Tables : Type 0 where
+  pub rows : List ℕ
+  pub active : List ℕ
+
+-- a row per record, the active nodes by rising ID, and zeros after; as long as what was lent
+abbrev pub tablesFor : List ℕ → List ℕ → List Row → Tables
+tablesFor words entries rows = record { rows = filled (length words) (rowWords rows); active = filled (length entries) (activeNodes rows) }
+
+-- what an accepted snapshot's reading answers
+pub record SnapshotTold : Type 0 where
+  pub config : Config
+  pub crc : ℕ
+  pub sequence : ℕ
+  pub records : ℕ
+  pub active : ℕ
+  pub size : ℕ
+
+abbrev pub snapshotTold : Snapshot → SnapshotTold
+snapshotTold s =
+    record {
+      config = s .config;
+      crc = s .crc;
+      sequence = s .sequence;
+      records = length (s .rows);
+      active = liveCount (s .rows);
+      size = size (rowKind (s .config .dimensions)) (s .rows);
+    }
+
+abbrev pub readCall : List ℕ → List ℕ → List ℕ → Result Snapshot
+readCall words entries snapshot = readSnapshot (rowsLent words entries) snapshot
+
+abbrev pub readTables : List ℕ → List ℕ → Result Snapshot → Tables
+readTables words entries (answer s) = tablesFor words entries (s .rows)
+readTables words entries (refused why) = tablesFor words entries []
+
+-- what an accepted recovery answers
+pub record RecoveryTold : Type 0 where
+  pub config : Config
+  pub crc : ℕ
+  pub sequence : ℕ
+  pub records : ℕ
+  pub active : ℕ
+  pub replayed : ℕ
+  pub skipped : ℕ
+  pub keep : ℕ
+  pub tail : ℕ
+  pub size : ℕ
+
+abbrev pub recoveryTold : List ℕ → Recovered → RecoveryTold
+recoveryTold log r =
+    record {
+      config = r .config;
+      crc = r .crc;
+      sequence = r .state .sequence;
+      records = recordCount r;
+      active = activeCount r;
+      replayed = r .state .replayed;
+      skipped = r .state .skipped;
+      keep = r .keep;
+      tail = tailLength log r;
+      size = sizeOf r;
+    }
+
+abbrev pub recoverCall : List ℕ → List ℕ → List ℕ → List ℕ → Recovery
+recoverCall words entries snapshot log = recover (rowsLent words entries) snapshot log
+
+abbrev pub recoverTables : List ℕ → List ℕ → Recovery → Tables
+recoverTables words entries (recovered r) = tablesFor words entries (rowsOf r)
+recoverTables words entries (refusedSnapshot why) = tablesFor words entries []
+recoverTables words entries (refusedLog why at) = tablesFor words entries []
+
+-- ---- writers: a lent output
+-- the bytes at its front and the rest untouched, or no byte changed
+abbrev pub outputAfter : List ℕ → Result (List ℕ) → List ℕ
+outputAfter out (answer bytes) = bytes ++ drop (length bytes) out
+outputAfter out (refused why) = out
+
+abbrev pub writeCall : Extent → Config → ℕ → List ℕ → ℕ → List ℕ → List ℕ → List ℕ → Result (List ℕ)
+writeCall extent c sequence words count snapshot log out = write extent c sequence words count snapshot log (length out)
+
+abbrev pub encodeCall : Shape → Config → ℕ → List ℕ → List ℕ → List ℕ → List ℕ → Result (List ℕ)
+encodeCall shape c sequence words coords captions out = encode shape c sequence words coords captions (length out)
+
+-- ---- the playout host's delete frame: 29 bytes, or 0 and nothing written if the sequence is 0 or room is short
+abbrev pub deleteRefused : ℕ → List ℕ → Bool
+deleteRefused sequence out = cond (eqb sequence 0) true (ltb (length out) 29)
+
+abbrev pub deleteCount : ℕ → List ℕ → ℕ
+deleteCount sequence out = cond (deleteRefused sequence out) 0 29
+
+abbrev pub deleteOutput : ℕ → ℕ → List ℕ → List ℕ
+deleteOutput sequence id out = cond (deleteRefused sequence out) out (deleteFrame sequence id ++ drop 29 out)

@@ -1,0 +1,13 @@
+pub mod Refusal
+pub mod Replay
+pub mod Rows
+pub mod Item
+pub mod Snapshot
+pub mod Log
+pub mod Recovery
+pub mod Tables
+pub mod File
+pub mod Writer
+pub mod Encoder
+pub mod Views
+pub mod Calls

@@ -1,0 +1,1 @@
+// What the store means: definitions alone, which every layer above cites. See specs/.

@@ -1,0 +1,40 @@
+-- `wrapping_mul` gives the product modulo 2^64: `mod-of-halves` at H = 2^32. Each product of two halves fits.
+use mathlib.Core.Path.{sym, _∙_}
+use borrow.Author.Needs.{needs}
+use lib.Dec.{lit<}
+use Rattle.rng.proofs.Halves.{mod-of-halves, product-below}
+use Rattle.rng.proofs.wrapping_mul.Statement.{statement}
+use Rattle.rng.proofs.wrapping_mul.Tie as tie
+
+mul-low : tie.Need-mul-low
+mul-low c = record { fits = product-below 4294967296 (lit< tt) (search needs) (search needs) }
+
+mul-first : tie.Need-mul-first
+mul-first c = record { fits = product-below 4294967296 (lit< tt) (search needs) (search needs) }
+
+mul-second : tie.Need-mul-second
+mul-second c = record { fits = product-below 4294967296 (lit< tt) (search needs) (search needs) }
+
+add-cross : tie.Need-add-cross
+add-cross c = search needs
+
+mul-wrapping-add-u64 : tie.Need-mul-wrapping-add-u64
+mul-wrapping-add-u64 c = search needs
+
+wrapping-add-u64-requires : tie.Need-wrapping-add-u64-requires
+wrapping-add-u64-requires c κs = search needs
+
+returns : tie.Need-returns
+returns c = c .wrapping-add-u64 .ensures ∙ sym (mod-of-halves 4294967296 (c .before .args .a) (c .before .args .b))
+
+pub wrapping-mul-spec : {M : Type 1} → statement M
+wrapping-mul-spec =
+    tie.close
+    (tie.spec
+    mul-low
+    mul-first
+    mul-second
+    add-cross
+    mul-wrapping-add-u64
+    wrapping-add-u64-requires
+    returns)

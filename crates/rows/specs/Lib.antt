@@ -1,0 +1,3 @@
+pub mod Packed
+pub mod Rows
+pub mod Lent

@@ -1,0 +1,123 @@
+-- Two accepted snapshots that differ only in the captions of deleted records, lengths included, recover with one log and equal tables
+-- lent to the same answer, snapshot CRC and row offsets excepted; and to the same records.
+use Prim.Native.Nat.{ℕ, _+_, _*_, _-_, _≤_, _<_, _^_}
+use native.Mathlib.Omega.{arith}
+use mathlib.Core.Path.{_≡_, refl, sym, ap, ap₂, _∙_, subst}
+use mathlib.Core.Bool.{Bool, true, false, cond}
+use mathlib.Core.List.{List, [], _∷_, _++_, map, nil≢cons}
+use lib.ListN.{length}
+use lib.Dec.{ltb}
+use Rattle.fields.specs.Fields.{Bytes}
+use Rattle.config.specs.Limits.{maxLogBytes}
+use Rattle.config.specs.declared.Config.{Config}
+use Rattle.meaning.specs.Refusal.{Refusal, answer}
+use Rattle.meaning.specs.Replay.{Kind, Frame, Frames, State, Outcome, reached, stopped, replay}
+use Rattle.meaning.specs.Rows.{Row, Record, rowKind, seen}
+use Rattle.meaning.specs.Snapshot.{Snapshot, readSnapshot}
+use Rattle.meaning.specs.Log.{framesOf}
+use Rattle.meaning.specs.Recovery.{Recovered, Recovery, recovered, refusedSnapshot, refusedLog, limitsFor, ended, recover}
+use Rattle.theorems.specs.Results.{not-less}
+use Rattle.theorems.specs.Cut as Cut
+use Rattle.theorems.specs.Carry.{Carries, carryState, carryFrames, carryEnd, carryOutcome, replay-carried}
+use Rattle.theorems.specs.LogFit.{Logged, in-frames, frames-logged}
+use Rattle.theorems.specs.Weighed.{Weighed, weighedKind, weighed, weighed-carries, frames-alike}
+use Rattle.theorems.specs.DeletedCaptions.{DifferInDeleted, placeless, ReadAlike, deleted-captions}
+use Rattle.theorems.specs.Recovering.{recover-read, recover-long}
+use Rattle.theorems.specs.Demand3.{Told, told, tell, told-weighed, weighed-alike}
+
+-- an answer without snapshot CRC and row offsets. Its counts, size and active nodes are those of the rows without their places
+abbrev pub withoutPlaces : Recovery → Recovery
+withoutPlaces (recovered r) = recovered (record { config = r .config; crc = 0; state = carryState placeless (r .state); keep = r .keep })
+withoutPlaces (refusedSnapshot why) = refusedSnapshot why
+withoutPlaces (refusedLog why at) = refusedLog why at
+
+abbrev endedWith : Config → Outcome Row → Recovery
+endedWith c (reached s keep) = recovered (record { config = c; crc = 0; state = s; keep = keep })
+endedWith c (stopped why at) = refusedLog why at
+
+ended-placeless : (x : Snapshot) (o : Outcome Row) → withoutPlaces (ended x o) ≡ endedWith (x .config) (carryOutcome placeless (λ n. n) o)
+ended-placeless x (reached s keep) = refl
+ended-placeless x (stopped why at) = refl
+
+placeless-carries : (d : ℕ) → Carries (rowKind d) (rowKind d) placeless
+placeless-carries d = record { ids = λ r. refl; deleteds = λ r. refl; sizes = λ r. refl; deletes = λ r. refl }
+
+weighed-same : (d : ℕ) (s s' log : List ℕ) (xs ys : List Row) → map (seen d s log) xs ≡ map (seen d s' log) ys → map placeless xs ≡ map placeless ys
+    → map (weighed d s log) xs ≡ map (weighed d s' log) ys
+weighed-same d s s' log [] [] e p = refl
+weighed-same d s s' log [] (y ∷ ys) e p = absurd (nil≢cons p)
+weighed-same d s s' log (x ∷ xs) [] e p = absurd (nil≢cons (sym p))
+weighed-same d s s' log (x ∷ xs) (y ∷ ys) e p =
+    let v : seen d s log x ≡ seen d s' log y = cc in
+    let w : placeless x ≡ placeless y = cc in
+    let es : map (seen d s log) xs ≡ map (seen d s' log) ys = cc in
+    let ps : map placeless xs ≡ map placeless ys = cc in
+    ap₂ _∷_ (ap₂ (λ (a : Record) (n : ℕ). record { value = a; caption = n }) v (ap (λ (r : Row). r .caption) w)) (weighed-same d s s' log xs ys es ps)
+
+module _ (lent : ℕ) (s s' log : List ℕ) (x y : Snapshot) (e : readSnapshot lent s ≡ answer x) (e' : readSnapshot lent s' ≡ answer y) (k : ReadAlike s s' x y) where
+  abbrev L : Rattle.meaning.specs.Replay.Limits
+  L = limitsFor lent
+
+  placeless-replay : carryOutcome placeless (λ n. n) (replay (rowKind (x .config .dimensions)) L (x .sequence) (x .rows) (framesOf (x .config) log))
+      ≡ carryOutcome placeless (λ n. n) (replay (rowKind (y .config .dimensions)) L (y .sequence) (y .rows) (framesOf (y .config) log))
+  placeless-replay =
+      sym (replay-carried (rowKind (x .config .dimensions)) (rowKind (x .config .dimensions)) placeless (placeless-carries (x .config .dimensions)) L (λ n. n) (x .sequence) (x .rows) (framesOf (x .config) log))
+      ∙ ap₂ (λ (q : ℕ) (rs : List Row). replay (rowKind (x .config .dimensions)) L q rs (carryFrames placeless (λ n. n) (framesOf (x .config) log))) (k .same-sequence) (k .same-rows)
+      ∙ ap (λ (c : Config). replay (rowKind (c .dimensions)) L (y .sequence) (map placeless (y .rows)) (carryFrames placeless (λ n. n) (framesOf c log))) (k .same-config)
+      ∙ replay-carried (rowKind (y .config .dimensions)) (rowKind (y .config .dimensions)) placeless (placeless-carries (y .config .dimensions)) L (λ n. n) (y .sequence) (y .rows) (framesOf (y .config) log)
+
+  same-answer : withoutPlaces (recover lent s log) ≡ withoutPlaces (recover lent s' log)
+  same-answer = go (ltb maxLogBytes (length log)) refl
+    where
+      go : (b : Bool) → ltb maxLogBytes (length log) ≡ b → withoutPlaces (recover lent s log) ≡ withoutPlaces (recover lent s' log)
+      go true l = ap withoutPlaces (recover-long lent s log l ∙ sym (recover-long lent s' log l))
+      go false l =
+          let n = not-less maxLogBytes (length log) l in
+          ap withoutPlaces (recover-read lent s log x e n)
+          ∙ ended-placeless x (replay (rowKind (x .config .dimensions)) L (x .sequence) (x .rows) (framesOf (x .config) log))
+          ∙ ap₂ endedWith (k .same-config) placeless-replay
+          ∙ sym (ended-placeless y (replay (rowKind (y .config .dimensions)) L (y .sequence) (y .rows) (framesOf (y .config) log)))
+          ∙ sym (ap withoutPlaces (recover-read lent s' log y e' n))
+
+  module _ (bl : Bytes log) where
+    weighed-replay : Cut.told (carryOutcome (weighed (x .config .dimensions) s log) (λ n. n) (replay (rowKind (x .config .dimensions)) L (x .sequence) (x .rows) (framesOf (x .config) log)))
+        ≡ Cut.told (carryOutcome (weighed (y .config .dimensions) s' log) (λ n. n) (replay (rowKind (y .config .dimensions)) L (y .sequence) (y .rows) (framesOf (y .config) log)))
+    weighed-replay =
+        let d = x .config .dimensions in
+        let sd : y .config .dimensions ≡ d = ap (λ (c : Config). c .dimensions) (sym (k .same-config)) in
+        let seen-are : map (seen d s log) (x .rows) ≡ map (seen d s' log) (y .rows)
+        = k .same-records log ∙ ap (λ (n : ℕ). map (seen n s' log) (y .rows)) sd in
+        let fs = framesOf (x .config) log in
+        let alike : carryFrames (weighed d s log) (λ n. n) fs ≡ carryFrames (weighed d s' log) (λ n. n) fs
+        = ap (λ (l : List (Frame Weighed)). record { frames = l; ended = carryEnd (λ n. n) (fs .ended) })
+        (frames-alike (weighed d s log) (weighed d s' log) (λ n. n) (fs .frames)
+        (in-frames (Logged (x .config) s log) (λ r. weighed d s log r ≡ weighed d s' log r) (λ r l. weighed-alike d s s' log r (l .from-log)) (fs .frames) (frames-logged (x .config) s log bl))) in
+        ap Cut.told
+        (sym (replay-carried (rowKind d) (weighedKind d) (weighed d s log) (weighed-carries d s log) L (λ n. n) (x .sequence) (x .rows) fs)
+        ∙ ap₂ (replay (weighedKind d) L (x .sequence)) (weighed-same d s s' log (x .rows) (y .rows) seen-are (k .same-rows)) alike
+        ∙ replay-carried (rowKind d) (weighedKind d) (weighed d s' log) (weighed-carries d s' log) L (λ n. n) (x .sequence) (y .rows) fs
+        ∙ ap (λ (q : ℕ). carryOutcome (weighed d s' log) (λ n. n) (replay (rowKind d) L q (y .rows) fs)) (k .same-sequence)
+        ∙ ap (λ (c : Config). carryOutcome (weighed (c .dimensions) s' log) (λ n. n) (replay (rowKind (c .dimensions)) L (y .sequence) (y .rows) (framesOf c log))) (k .same-config))
+
+    same-told : told s log (recover lent s log) ≡ told s' log (recover lent s' log)
+    same-told = go (ltb maxLogBytes (length log)) refl
+      where
+        go : (b : Bool) → ltb maxLogBytes (length log) ≡ b → told s log (recover lent s log) ≡ told s' log (recover lent s' log)
+        go true l = ap (told s log) (recover-long lent s log l) ∙ sym (ap (told s' log) (recover-long lent s' log l))
+        go false l =
+            let n = not-less maxLogBytes (length log) l in
+            ap (told s log) (recover-read lent s log x e n)
+            ∙ told-weighed s log x (replay (rowKind (x .config .dimensions)) L (x .sequence) (x .rows) (framesOf (x .config) log))
+            ∙ ap₂ (λ (c : Config). tell c log) (k .same-config) weighed-replay
+            ∙ sym (told-weighed s' log y (replay (rowKind (y .config .dimensions)) L (y .sequence) (y .rows) (framesOf (y .config) log)))
+            ∙ sym (ap (told s' log) (recover-read lent s' log y e' n))
+
+-- the whole answer, but for snapshot CRC and row offsets
+pub deleted-captions-answer : (lent : ℕ) (s s' log : List ℕ) (x y : Snapshot) → DifferInDeleted s s'
+    → readSnapshot lent s ≡ answer x → readSnapshot lent s' ≡ answer y → withoutPlaces (recover lent s log) ≡ withoutPlaces (recover lent s' log)
+deleted-captions-answer lent s s' log x y k e e' = same-answer lent s s' log x y e e' (deleted-captions lent lent s s' x y k e e')
+
+-- and the same records
+pub deleted-captions-records : (lent : ℕ) (s s' log : List ℕ) (x y : Snapshot) → Bytes log → DifferInDeleted s s'
+    → readSnapshot lent s ≡ answer x → readSnapshot lent s' ≡ answer y → told s log (recover lent s log) ≡ told s' log (recover lent s' log)
+deleted-captions-records lent s s' log x y bl k e e' = same-told lent s s' log x y e e' (deleted-captions lent lent s s' x y k e e') bl
