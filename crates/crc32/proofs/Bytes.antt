@@ -19,6 +19,10 @@ unfolding bytesIn
 bytesIn-append c [] b = refl
 bytesIn-append c (x ∷ a) b = bytesIn-append (bitsIn 8 c x) a b
 
+pub crc-append : (a b : List ℕ) → crcOf (a ++ b) ≡ bitXor (bytesIn (bytesIn allOnes a) b) allOnes
+unfolding crcOf
+crc-append a b = ap (λ (x : ℕ). bitXor x allOnes) (bytesIn-append allOnes a b)
+
 pub bitIn-lt : (c d : ℕ) → c < 4294967296 → d < 2 → bitIn c d < 4294967296
 unfolding bitIn
 bitIn-lt c d h k =

@@ -1,6 +1,11 @@
 -- `crc32::rows::four` meets its contract: each byte is looked up in the row of as many bytes as follow it.
 -- Assumes nothing.
-use Prim.Native.Nat.{_+_}
+use mathlib.Core.Path.{sym, ap, ap₂, _∙_}
+use mathlib.Core.List.{List}
+use lib.Bits.{bitXor}
+use Rattle.crc32.specs.Crc.{bytesIn}
+use Rattle.crc32.specs.Steps.{turns}
+use Prim.Native.Nat.{ℕ, _+_}
 use denote.Ref.{now}
 use lib.ListN.{getD}
 use Rattle.crc32.proofs.Slices.{four-bytes, take-four}
@@ -57,15 +62,11 @@ returns c =
     let s = now (a .s) in
     let byte = known .shared-slice-known .given in
     let at = a .at in
-    cc (
-      c .before .before .before .before .before .before .look .ensures,
-      c .before .before .before .before .look2 .ensures,
-      c .before .before .look3 .ensures,
-      c .look4 .ensures,
-      take-four at s (search needs),
-      four-bytes (a .row) (a .c) (getD s at 0) (getD s (at + 1) 0) (getD s (at + 2) 0) (getD s (at + 3) 0) (search needs)
-          (byte at .fits) (byte (at + 1) .fits) (byte (at + 2) .fits) (byte (at + 3) .fits),
-    )
+    ap₂ bitXor (c .before .before .before .before .before .before .look .ensures)
+    (ap₂ bitXor (c .before .before .before .before .look2 .ensures) (ap₂ bitXor (c .before .before .look3 .ensures) (c .look4 .ensures)))
+    ∙ four-bytes (a .row) (a .c) (getD s at 0) (getD s (at + 1) 0) (getD s (at + 2) 0) (getD s (at + 3) 0) (search needs)
+    (byte at .fits) (byte (at + 1) .fits) (byte (at + 2) .fits) (byte (at + 3) .fits)
+    ∙ ap (λ (l : List ℕ). turns 8 (a .row) (bytesIn (a .c) l)) (sym (take-four at s (search needs)))
 
 pub four-spec : {M : Type 1} → statement M
 four-spec =

@@ -1,5 +1,11 @@
 -- `crc32::rows::sixteen` meets its contract: four times four bytes, each with the rest as zero bytes after it.
 -- Assumes nothing.
+use mathlib.Core.Path.{_≡_, ap₂, _∙_}
+use Prim.Native.Nat.{_+_}
+use lib.ListN.{take, drop}
+use Rattle.crc32.specs.Crc.{bytesIn}
+use Rattle.crc32.specs.Steps.{turns}
+use lib.Bits.{bitXor}
 use denote.Ref.{now}
 use Rattle.crc32.proofs.Slices.{sixteen-bytes}
 use borrow.Author.Needs.{needs}
@@ -30,13 +36,13 @@ four-requires-4 c κs = search needs
 returns : tie.Need-returns
 returns c =
     let a = c .before .before .before .before .before .args in
-    cc (
-      c .before .before .before .four .ensures,
-      c .before .before .four2 .ensures,
-      c .before .four3 .ensures,
-      c .four4 .ensures,
-      sixteen-bytes (a .c) (a .at) (now (a .s)) (search needs),
-    )
+    let s = now (a .s) in
+    let at = a .at in
+    let e₁ : c .before .before .before .four .result ≡ turns 8 12 (bytesIn (a .c) (take 4 (drop at s))) = c .before .before .before .four .ensures in
+    let e₂ : c .before .before .four2 .result ≡ turns 8 8 (bytesIn 0 (take 4 (drop (at + 4) s))) = c .before .before .four2 .ensures in
+    let e₃ : c .before .four3 .result ≡ turns 8 4 (bytesIn 0 (take 4 (drop (at + 8) s))) = c .before .four3 .ensures in
+    let e₄ : c .four4 .result ≡ turns 8 0 (bytesIn 0 (take 4 (drop (at + 12) s))) = c .four4 .ensures in
+    ap₂ bitXor e₁ (ap₂ bitXor e₂ (ap₂ bitXor e₃ e₄)) ∙ sixteen-bytes (a .c) at s (search needs)
 
 pub sixteen-spec : {M : Type 1} → statement M
 sixteen-spec =
