@@ -274,7 +274,7 @@ fn ascii_in_word(s: &[u8], i: usize) -> usize
     requires { ⌜ i + 8 ≤ length (now s) ⌝ }
     ensures { λ r. ⌜ r ≡ asciiFront (take 8 (drop i (now (s .entry)))) ⌝ }
 {
-    (u64::trailing_zeros(word(s, i) & 0x8080808080808080) / 8) as usize
+    count(u64::trailing_zeros(word(s, i) & 0x8080808080808080) / 8)
 }
 
 fn word(s: &[u8], i: usize) -> u64
@@ -295,4 +295,10 @@ fn wide(x: u8) -> u64
     ensures { λ r. ⌜ (r ≡ x) × (r < 256) ⌝ }
 {
     x as u64
+}
+
+fn count(n: u32) -> usize
+    ensures { λ r. ⌜ r ≡ n ⌝ }
+{
+    n as usize
 }

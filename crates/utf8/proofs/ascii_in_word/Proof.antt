@@ -4,7 +4,7 @@ use Prim.Native.Nat.{ℕ, _/_}
 use native.Mathlib.Omega.{arith}
 use denote.Ref.{now}
 use lib.Bits.{bitAnd}
-use lib.Count.{trailingZeros, trailing-le}
+use lib.Count.{trailingZeros}
 use Rattle.utf8.proofs.Words.{word-is}
 use Rattle.utf8.proofs.ascii_in_word.Statement.{statement}
 use Rattle.utf8.proofs.ascii_in_word.Tie as tie
@@ -12,14 +12,15 @@ use Rattle.utf8.proofs.ascii_in_word.Tie as tie
 word-requires : tie.Need-word-requires
 word-requires c κs = omega arith
 
-cast-result : tie.Need-cast-result
-cast-result c = omega (arith, trailing-le 64 (bitAnd (c .word .result) 0x8080808080808080))
+count-requires : tie.Need-count-requires
+count-requires c κs = tt
 
 returns : tie.Need-returns
 returns c =
-    let a = c .before .before in
-    ap (λ (w : ℕ). trailingZeros 64 (bitAnd w 0x8080808080808080) / 8) (c .word .ensures)
-    ∙ word-is (now (a .args .s)) (a .args .i) (a .pre) (λ j. omega (arith, c .before .shared-slice-known .given j))
+    let a = c .before .before .before in
+    c .count .ensures
+    ∙ ap (λ (w : ℕ). trailingZeros 64 (bitAnd w 0x8080808080808080) / 8) (c .before .word .ensures)
+    ∙ word-is (now (a .args .s)) (a .args .i) (a .pre) (λ j. omega (arith, c .before .before .shared-slice-known .given j))
 
 pub ascii-in-word-spec : {M : Type 1} → statement M
-ascii-in-word-spec = tie.close (tie.spec word-requires cast-result returns)
+ascii-in-word-spec = tie.close (tie.spec word-requires count-requires returns)
