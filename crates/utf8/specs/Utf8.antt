@@ -1,5 +1,5 @@
 -- UTF-8 as RFC 3629, section 4, gives it: its grammar, in its names and order, and the same as tests that can be computed, which the contracts
--- cite. `proofs/Grammar.antt` shows that the two agree, on lists of any numbers.
+-- cite. `proofs/Laws.antt` shows that the two agree, on lists of any numbers.
 use mathlib.Core.Bool.{Bool, true, false, cond, _&&_, _||_}
 use mathlib.Core.List.{List, [], _∷_, _++_}
 use Prim.Native.Nat.{ℕ, zero, suc, _+_, _≤_}
