@@ -123,6 +123,6 @@ encode shape c sequence words coords captions room = do
   encoded ← encodeAll c coords captions (asked words)
   sealed room (payloadBytes shape sequence encoded)
 
--- the playout host's delete frame: 29 bytes, or nothing where the sequence is 0 or room is short
+-- the playout host's delete frame, 29 bytes
 abbrev pub deleteFrame : ℕ → ℕ → List ℕ
 deleteFrame sequence id = frameBytes (payloadBytes single sequence (record { tag = 2; fields = bytes 8 id } ∷ []))

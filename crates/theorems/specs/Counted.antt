@@ -19,9 +19,9 @@ unfoldable pub upTo : {A : Type 0} → ℕ → List (Frame A) → List (Frame A)
 upTo q [] = []
 upTo q (f ∷ fs) = cond (leb (f .sequence) q) (f ∷ upTo q fs) (upTo q fs)
 
-unfoldable pub after : {A : Type 0} → ℕ → List (Frame A) → List (Frame A)
-after q [] = []
-after q (f ∷ fs) = cond (leb (f .sequence) q) (after q fs) (f ∷ after q fs)
+unfoldable pub above : {A : Type 0} → ℕ → List (Frame A) → List (Frame A)
+above q [] = []
+above q (f ∷ fs) = cond (leb (f .sequence) q) (above q fs) (f ∷ above q fs)
 
 -- the last frame's sequence, or n where there is none
 abbrev pub lastOf : {A : Type 0} → ℕ → List (Frame A) → ℕ
@@ -51,12 +51,12 @@ upTo-all {A} q (f ∷ fs) = go (leb (f .sequence) q) refl (upTo-all q fs)
     go true h rest = (leb-true _ _ h, rest)
     go false h rest = rest
 
-pub after-all : {A : Type 0} (q : ℕ) (fs : List (Frame A)) → AllAbove q (after q fs)
-unfolding after
+pub after-all : {A : Type 0} (q : ℕ) (fs : List (Frame A)) → AllAbove q (above q fs)
+unfolding above
 after-all q [] = tt
 after-all {A} q (f ∷ fs) = go (leb (f .sequence) q) refl (after-all q fs)
   where
-    go : (x : Bool) → leb (f .sequence) q ≡ x → AllAbove q (after q fs) → AllAbove q (cond x (after q fs) (f ∷ after q fs))
+    go : (x : Bool) → leb (f .sequence) q ≡ x → AllAbove q (above q fs) → AllAbove q (cond x (above q fs) (f ∷ above q fs))
     go true h rest = rest
     go false h rest = (leb-false _ _ h, rest)
 
@@ -65,20 +65,20 @@ unfolding upTo
 upTo-none q [] h = refl
 upTo-none q (f ∷ fs) h = ap (λ (x : Bool). cond x (f ∷ upTo q fs) (upTo q fs)) (lt-leb _ _ (h .0)) ∙ upTo-none q fs (h .1)
 
-pub after-same : {A : Type 0} (q : ℕ) (fs : List (Frame A)) → AllAbove q fs → after q fs ≡ fs
-unfolding after
+pub after-same : {A : Type 0} (q : ℕ) (fs : List (Frame A)) → AllAbove q fs → above q fs ≡ fs
+unfolding above
 after-same q [] h = refl
 after-same {A} q (f ∷ fs) h =
-    ap (λ (x : Bool). cond x (after q fs) (f ∷ after q fs)) (lt-leb _ _ (h .0)) ∙ ap {B = List (Frame A)} (λ gs. f ∷ gs) (after-same q fs (h .1))
+    ap (λ (x : Bool). cond x (above q fs) (f ∷ above q fs)) (lt-leb _ _ (h .0)) ∙ ap {B = List (Frame A)} (λ gs. f ∷ gs) (after-same q fs (h .1))
 
 -- rising frames: the skipped ones are a front, the replayed ones the rest
-pub parted : {A : Type 0} (q : ℕ) (fs : List (Frame A)) → Rising fs → fs ≡ upTo q fs ++ after q fs
-unfolding upTo after
+pub parted : {A : Type 0} (q : ℕ) (fs : List (Frame A)) → Rising fs → fs ≡ upTo q fs ++ above q fs
+unfolding upTo above
 parted q [] r = refl
 parted {A} q (f ∷ fs) r = go (leb (f .sequence) q) refl (parted q fs (rising (f .sequence) fs r))
   where
-    go : (x : Bool) → leb (f .sequence) q ≡ x → fs ≡ upTo q fs ++ after q fs
-        → f ∷ fs ≡ cond x (f ∷ upTo q fs) (upTo q fs) ++ cond x (after q fs) (f ∷ after q fs)
+    go : (x : Bool) → leb (f .sequence) q ≡ x → fs ≡ upTo q fs ++ above q fs
+        → f ∷ fs ≡ cond x (f ∷ upTo q fs) (upTo q fs) ++ cond x (above q fs) (f ∷ above q fs)
     go true h rest = ap {B = List (Frame A)} (λ gs. f ∷ gs) rest
     go false h rest =
         let above : AllAbove q fs = rising-above (f .sequence) q fs (omega (arith, leb-false (f .sequence) q h)) r in
@@ -86,15 +86,15 @@ parted {A} q (f ∷ fs) r = go (leb (f .sequence) q) refl (parted q fs (rising (
 
 -- what a run came to, told from the frames alone
 pub record Tally {A : Type 0} (K : Kind A) (L : Limits) (q : ℕ) (fs : List (Frame A)) (s t : State A) : Type 0 where
-  pub replayed : t .replayed ≡ length (after q fs) + s .replayed
+  pub replayed : t .replayed ≡ length (above q fs) + s .replayed
   pub skipped : t .skipped ≡ length (upTo q fs) + s .skipped
-  pub records : applyFrames K L (after q fs) (s .records) ≡ answer (t .records)
-  pub sequence : t .sequence ≡ lastOf (s .sequence) (after q fs)
-  pub consecutive : Consecutive (s .sequence) (after q fs)
+  pub records : applyFrames K L (above q fs) (s .records) ≡ answer (t .records)
+  pub sequence : t .sequence ≡ lastOf (s .sequence) (above q fs)
+  pub consecutive : Consecutive (s .sequence) (above q fs)
 
 module _ {A : Type 0} (K : Kind A) (L : Limits) (q : ℕ) where
   pub ran-tally : (fs : List (Frame A)) (s t : State A) → Ran K L q fs s t → Tally K L q fs s t
-  unfolding upTo after applyFrames
+  unfolding upTo above applyFrames
   ran-tally [] s t r =
       record {
         replayed = omega (arith, ap (λ (x : State A). x .replayed) r);
@@ -130,10 +130,10 @@ pub record Counts {A : Type 0} (K : Kind A) (L : Limits) (q : ℕ) (rs : List A)
   pub together : s .replayed + s .skipped ≡ length fs
   pub ends : at ≡ k
   pub skipped : s .skipped ≡ length (upTo q fs)
-  pub replayed : s .replayed ≡ length (after q fs)
-  pub records : applyFrames K L (after q fs) rs ≡ answer (s .records)
-  pub sequence : s .sequence ≡ lastOf q (after q fs)
-  pub consecutive : Consecutive q (after q fs)
+  pub replayed : s .replayed ≡ length (above q fs)
+  pub records : applyFrames K L (above q fs) rs ≡ answer (s .records)
+  pub sequence : s .sequence ≡ lastOf q (above q fs)
+  pub consecutive : Consecutive q (above q fs)
 
 module _ {A : Type 0} (K : Kind A) (L : Limits) (q : ℕ) where
   pub replay-counts : (rs : List A) (fs : List (Frame A)) (k : ℕ) (s : State A) (at : ℕ)
@@ -155,41 +155,41 @@ module _ {A : Type 0} (K : Kind A) (L : Limits) (q : ℕ) where
   -- the state that frames lead to whose operations leave these records
   abbrev pub tallied : List (Frame A) → State A → List A → State A
   tallied fs s ts =
-      record { records = ts; sequence = lastOf (s .sequence) (after q fs); replayed = length (after q fs) + s .replayed; skipped = length (upTo q fs) + s .skipped }
+      record { records = ts; sequence = lastOf (s .sequence) (above q fs); replayed = length (above q fs) + s .replayed; skipped = length (upTo q fs) + s .skipped }
 
   -- the other way: frames numbered on from the snapshot, whose operations go through, are replayed
   pub run-reaches : (fs : List (Frame A)) (k : ℕ) (s : State A) (ts : List A)
-      → Consecutive (s .sequence) (after q fs) → applyFrames K L (after q fs) (s .records) ≡ answer ts → run K L q fs (tail k) s ≡ reached (tallied fs s ts) k
-  unfolding run step replayFrame upTo after applyFrames
+      → Consecutive (s .sequence) (above q fs) → applyFrames K L (above q fs) (s .records) ≡ answer ts → run K L q fs (tail k) s ≡ reached (tallied fs s ts) k
+  unfolding run step replayFrame upTo above applyFrames
   run-reaches [] k s ts c h =
       λ i. reached (record { records = answer-inj h i; sequence = s .sequence; replayed = sym (zero-add (s .replayed)) i; skipped = sym (zero-add (s .skipped)) i }) k
   run-reaches (f ∷ fs) k s ts c h = go (leb (f .sequence) q) c h (λ t. run-reaches fs k t ts)
     where
       onwards : (t : State A) → Type 0
-      onwards t = Consecutive (t .sequence) (after q fs) → applyFrames K L (after q fs) (t .records) ≡ answer ts → run K L q fs (tail k) t ≡ reached (tallied fs t ts) k
+      onwards t = Consecutive (t .sequence) (above q fs) → applyFrames K L (above q fs) (t .records) ≡ answer ts → run K L q fs (tail k) t ≡ reached (tallied fs t ts) k
 
-      applied : (x : Result (List A)) → (x >>= applyFrames K L (after q fs)) ≡ answer ts → Consecutive (f .sequence) (after q fs) → ((t : State A) → onwards t)
+      applied : (x : Result (List A)) → (x >>= applyFrames K L (above q fs)) ≡ answer ts → Consecutive (f .sequence) (above q fs) → ((t : State A) → onwards t)
           → onward (f .start) (x >>= λ rs. answer (play f s rs)) (run K L q fs (tail k))
-          ≡ reached (record { records = ts; sequence = lastOf (f .sequence) (after q fs); replayed = suc (length (after q fs)) + s .replayed; skipped = length (upTo q fs) + s .skipped }) k
+          ≡ reached (record { records = ts; sequence = lastOf (f .sequence) (above q fs); replayed = suc (length (above q fs)) + s .replayed; skipped = length (upTo q fs) + s .skipped }) k
       applied (answer rs) h c rest =
-          let more : length (after q fs) + suc (s .replayed) ≡ suc (length (after q fs)) + s .replayed = omega arith in
+          let more : length (above q fs) + suc (s .replayed) ≡ suc (length (above q fs)) + s .replayed = omega arith in
           rest (play f s rs) c h
-          ∙ (λ i. reached (record { records = ts; sequence = lastOf (f .sequence) (after q fs); replayed = more i; skipped = length (upTo q fs) + s .skipped }) k)
+          ∙ (λ i. reached (record { records = ts; sequence = lastOf (f .sequence) (above q fs); replayed = more i; skipped = length (upTo q fs) + s .skipped }) k)
       applied (refused why) h c rest = absurd (refused≢answer h)
 
-      go : (x : Bool) → Consecutive (s .sequence) (cond x (after q fs) (f ∷ after q fs)) → applyFrames K L (cond x (after q fs) (f ∷ after q fs)) (s .records) ≡ answer ts
+      go : (x : Bool) → Consecutive (s .sequence) (cond x (above q fs) (f ∷ above q fs)) → applyFrames K L (cond x (above q fs) (f ∷ above q fs)) (s .records) ≡ answer ts
           → ((t : State A) → onwards t)
           → onward (f .start) (cond x (answer (skip s)) (replayFrame K L f s)) (run K L q fs (tail k))
-          ≡ reached (record { records = ts; sequence = lastOf (s .sequence) (cond x (after q fs) (f ∷ after q fs)); replayed = length (cond x (after q fs) (f ∷ after q fs)) + s .replayed; skipped = length (cond x (f ∷ upTo q fs) (upTo q fs)) + s .skipped }) k
+          ≡ reached (record { records = ts; sequence = lastOf (s .sequence) (cond x (above q fs) (f ∷ above q fs)); replayed = length (cond x (above q fs) (f ∷ above q fs)) + s .replayed; skipped = length (cond x (f ∷ upTo q fs) (upTo q fs)) + s .skipped }) k
       go true c h rest =
           let more : length (upTo q fs) + suc (s .skipped) ≡ suc (length (upTo q fs)) + s .skipped = omega arith in
           rest (skip s) c h
-          ∙ (λ i. reached (record { records = ts; sequence = lastOf (s .sequence) (after q fs); replayed = length (after q fs) + s .replayed; skipped = more i }) k)
+          ∙ (λ i. reached (record { records = ts; sequence = lastOf (s .sequence) (above q fs); replayed = length (above q fs) + s .replayed; skipped = more i }) k)
       go false c h rest =
           rw (eq-eqb (f .sequence) (s .sequence + 1) (c .0)) (applied (applyAll K L (f .batch) (f .operations) (s .records)) h (c .1) rest)
 
   pub replay-reaches : (rs : List A) (fs : List (Frame A)) (k : ℕ) (ts : List A)
-      → Consecutive q (after q fs) → applyFrames K L (after q fs) rs ≡ answer ts
+      → Consecutive q (above q fs) → applyFrames K L (above q fs) rs ≡ answer ts
       → replay K L q rs (record { frames = fs; ended = tail k }) ≡ reached (tallied fs (begins q rs) ts) k
   unfolding replay
   replay-reaches rs fs k ts c h = run-reaches fs k (begins q rs) ts c h

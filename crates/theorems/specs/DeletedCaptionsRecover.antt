@@ -1,11 +1,11 @@
 -- Two accepted snapshots that differ only in the captions of deleted records, lengths included, recover with one log and equal tables
 -- lent to the same answer, snapshot CRC and row offsets excepted; and to the same records.
-use Prim.Native.Nat.{ℕ, _+_, _*_, _-_, _≤_, _<_, _^_}
+use Prim.Native.Nat.{ℕ, suc, _+_, _*_, _-_, _≤_, _<_, _^_}
 use native.Mathlib.Omega.{arith}
 use mathlib.Core.Path.{_≡_, refl, sym, ap, ap₂, _∙_, subst}
 use mathlib.Core.Bool.{Bool, true, false, cond}
 use mathlib.Core.List.{List, [], _∷_, _++_, map, nil≢cons}
-use lib.ListN.{length}
+use lib.ListN.{length, length-map}
 use lib.Dec.{ltb}
 use Rattle.fields.specs.Fields.{Bytes}
 use Rattle.config.specs.Limits.{maxLogBytes}
@@ -15,10 +15,12 @@ use Rattle.meaning.specs.Replay.{Kind, Frame, Frames, State, Outcome, reached, 
 use Rattle.meaning.specs.Rows.{Row, Record, rowKind, seen}
 use Rattle.meaning.specs.Snapshot.{Snapshot, readSnapshot}
 use Rattle.meaning.specs.Log.{framesOf}
-use Rattle.meaning.specs.Recovery.{Recovered, Recovery, recovered, refusedSnapshot, refusedLog, limitsFor, ended, recover}
+use Rattle.meaning.specs.Recovery.{Recovered, Recovery, recovered, refusedSnapshot, refusedLog, limitsFor, ended, recover, liveCount, rowsOf}
+use Rattle.meaning.specs.Tables.{Entry, insert, entriesFrom, nodesOf, activeNodes}
+use Rattle.meaning.specs.Calls.{RecoveryTold, recoveryTold}
 use Rattle.theorems.specs.Results.{not-less}
 use Rattle.theorems.specs.Cut as Cut
-use Rattle.theorems.specs.Carry.{Carries, carryState, carryFrames, carryEnd, carryOutcome, replay-carried}
+use Rattle.theorems.specs.Carry.{Carries, carryState, carryFrames, carryEnd, carryOutcome, size-carried, replay-carried}
 use Rattle.theorems.specs.LogFit.{Logged, in-frames, frames-logged}
 use Rattle.theorems.specs.Weighed.{Weighed, weighedKind, weighed, weighed-carries, frames-alike}
 use Rattle.theorems.specs.DeletedCaptions.{DifferInDeleted, placeless, ReadAlike, deleted-captions}
@@ -121,3 +123,72 @@ deleted-captions-answer lent s s' log x y k e e' = same-answer lent s s' log x y
 pub deleted-captions-records : (lent : ℕ) (s s' log : List ℕ) (x y : Snapshot) → Bytes log → DifferInDeleted s s'
     → readSnapshot lent s ≡ answer x → readSnapshot lent s' ≡ answer y → told s log (recover lent s log) ≡ told s' log (recover lent s' log)
 deleted-captions-records lent s s' log x y bl k e e' = same-told lent s s' log x y e e' (deleted-captions lent lent s s' x y k e e') bl
+
+-- ---- in the words of the answer
+placeless-live : (rows : List Row) → liveCount (map placeless rows) ≡ liveCount rows
+unfolding liveCount
+placeless-live [] = refl
+placeless-live (r ∷ rs) = ap (λ (n : ℕ). cond (r .deleted) n (suc n)) (placeless-live rs)
+
+placeless-entries : (k : ℕ) (rows : List Row) → entriesFrom k (map placeless rows) ≡ entriesFrom k rows
+unfolding entriesFrom
+placeless-entries k [] = refl
+placeless-entries k (r ∷ rs) =
+    ap (λ (es : List Entry). cond (r .deleted) es (insert (record { id = r .id; node = k }) es)) (placeless-entries (suc k) rs)
+
+abbrev pub withoutCrc : RecoveryTold → RecoveryTold
+withoutCrc t =
+    record {
+      config = t .config;
+      crc = 0;
+      sequence = t .sequence;
+      records = t .records;
+      active = t .active;
+      replayed = t .replayed;
+      skipped = t .skipped;
+      keep = t .keep;
+      tail = t .tail;
+      size = t .size;
+    }
+
+-- the values of a recovery, or others where it is none
+toldOr : RecoveryTold → List ℕ → Recovery → RecoveryTold
+toldOr z log (recovered r) = withoutCrc (recoveryTold log r)
+toldOr z log (refusedSnapshot why) = z
+toldOr z log (refusedLog why at) = z
+
+activeOr : List ℕ → Recovery → List ℕ
+activeOr z (recovered r) = activeNodes (rowsOf r)
+activeOr z (refusedSnapshot why) = z
+activeOr z (refusedLog why at) = z
+
+told-placeless : (z : RecoveryTold) (log : List ℕ) (r : Recovered) → toldOr z log (withoutPlaces (recovered r)) ≡ withoutCrc (recoveryTold log r)
+unfolding toldOr
+told-placeless z log r =
+    let rows = rowsOf r in
+    let d = r .config .dimensions in
+    λ i. record {
+      config = r .config;
+      crc = 0;
+      sequence = r .state .sequence;
+      records = length-map rows placeless i;
+      active = placeless-live rows i;
+      replayed = r .state .replayed;
+      skipped = r .state .skipped;
+      keep = r .keep;
+      tail = length log - r .keep;
+      size = size-carried (rowKind d) (rowKind d) placeless (placeless-carries d) rows i;
+    }
+
+-- every value of the answer but the snapshot CRC, and the active entries
+pub deleted-captions-told : (lent : ℕ) (s s' log : List ℕ) (x y : Snapshot) (r r' : Recovered) → DifferInDeleted s s'
+    → readSnapshot lent s ≡ answer x → readSnapshot lent s' ≡ answer y → recover lent s log ≡ recovered r → recover lent s' log ≡ recovered r'
+    → (withoutCrc (recoveryTold log r) ≡ withoutCrc (recoveryTold log r')) × (activeNodes (rowsOf r) ≡ activeNodes (rowsOf r'))
+unfolding activeOr
+deleted-captions-told lent s s' log x y r r' k e e' a a' =
+    let same : withoutPlaces (recovered r) ≡ withoutPlaces (recovered r')
+    = ap withoutPlaces (sym a) ∙ deleted-captions-answer lent s s' log x y k e e' ∙ ap withoutPlaces a' in
+    let z = recoveryTold log r in (
+      sym (told-placeless z log r) ∙ ap (toldOr z log) same ∙ told-placeless z log r',
+      ap nodesOf (sym (placeless-entries 0 (rowsOf r))) ∙ ap (activeOr []) same ∙ ap nodesOf (placeless-entries 0 (rowsOf r')),
+    )

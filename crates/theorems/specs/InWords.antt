@@ -15,12 +15,12 @@ use Rattle.meaning.specs.Snapshot.{Snapshot, readSnapshot}
 use Rattle.meaning.specs.Log.{framesOf}
 use Rattle.meaning.specs.Recovery.{Recovered, Recovery, recovered, limitsFor, ended, replayLog, recover}
 use Rattle.theorems.specs.Ran.{Ran, ran-reaches}
-use Rattle.theorems.specs.LogLaws.{after}
+use Rattle.theorems.specs.LogLaws.{byteAfter}
 use Rattle.theorems.specs.LogCut.{cut-after, cut-length}
 use Rattle.theorems.specs.Recovering.{recover-read}
 use Rattle.theorems.specs.Demand3.{Told, told, Brief, brief, fullSnapshot, demand-three, demand-three-rest}
 
--- A cut: of the log's frames some first ones are read without refusal, one after the other, to a state. `after log 0 frames` is the
+-- A cut: of the log's frames some first ones are read without refusal, one after the other, to a state. `byteAfter log 0 frames` is the
 -- byte behind the last of them, and 0 where there is none: before the first frame.
 pub record Cut (lent : ℕ) (snapshot log : List ℕ) : Type 0 where
   pub accepted : Snapshot
@@ -31,12 +31,13 @@ pub record Cut (lent : ℕ) (snapshot log : List ℕ) : Type 0 where
   pub frames : framesOf (accepted .config) log ≡ record { frames = front ++ behind; ended = end }
   pub state : State Row
   pub reads : Ran (rowKind (accepted .config .dimensions)) (limitsFor lent) (accepted .sequence) front (begins (accepted .sequence) (accepted .rows)) state
-  pub short : after log 0 front ≤ maxLogBytes
+  -- no premise within the log's bound; past it recovery reads no frame (20), and a cut before the first frame has 0 here
+  pub short : byteAfter log 0 front ≤ maxLogBytes
 
 module _ {lent : ℕ} {snapshot log : List ℕ} (cut : Cut lent snapshot log) where
   -- the byte at which the log is cut
   abbrev pub place : ℕ
-  place = after log 0 (cut .front)
+  place = byteAfter log 0 (cut .front)
 
   -- the state there
   abbrev pub there : Recovered
@@ -73,7 +74,8 @@ module _ {lent : ℕ} {snapshot log : List ℕ} (cut : Cut lent snapshot log) wh
 
     -- if the old pair was accepted, the log without the cut-off front also gives those records, settings, sequence and tail
     pub without-the-front : (old : Recovered) → recover lent snapshot log ≡ recovered old
-        → brief newSnapshot (drop place log) (recover lent newSnapshot (drop place log)) ≡ brief snapshot log (recover lent snapshot log)
+        → brief newSnapshot (drop place log) (recover lent newSnapshot (drop place log)) ≡ brief snapshot log (recovered old)
     without-the-front old e =
         subst (λ (l : List ℕ). brief newSnapshot (drop place log) (recover lent newSnapshot (drop place log)) ≡ brief snapshot l (recover lent snapshot l)) whole
         (demand-three-rest lent snapshot (take place log) (drop place log) there old bs (subst Bytes (sym whole) bl) front-recovers (sym length-front) (ap (recover lent snapshot) whole ∙ e) fits)
+        ∙ ap (brief snapshot log) e

@@ -45,3 +45,7 @@ pub mod Meant
 pub mod EncodeBack
 pub mod Appended
 pub mod DeleteFrame
+pub mod Origin
+pub mod WriterInWords
+pub mod ExampleCut
+pub mod Validated

@@ -12,7 +12,7 @@ use Rattle.meaning.specs.Rows.{Row}
 use Rattle.meaning.specs.Log.{Found, tooLittle, wrong, found, frameAt, join, goOn, framesOf}
 use Rattle.theorems.specs.Moved.{laterFrame, laterFrames, laterFound}
 use Rattle.theorems.specs.OneFrame.{IsWrong, frame-too-little, frame-front, frame-back, frame-shifted, frame-anew}
-use Rattle.theorems.specs.LogLaws.{framesAt, frames-of, frames-at, frames-at-tail, frames-at-bad, frames-at-found, frames-induction, first-frame, IsTail, endedAt, no-frame, afterFrame, after, BackToBack, after-frame, back-to-back, ended-after, after-least, after-most, back-to-back-front, back-to-back-rest}
+use Rattle.theorems.specs.LogLaws.{framesAt, frames-of, frames-at, frames-at-tail, frames-at-bad, frames-at-found, frames-induction, first-frame, IsTail, endedAt, no-frame, afterFrame, byteAfter, BackToBack, after-frame, back-to-back, ended-after, after-least, after-most, back-to-back-front, back-to-back-rest}
 
 -- ---- joined
 -- frames before others
@@ -105,7 +105,7 @@ accepted-rest c front rest fs k e t =
 
 -- ---- cut
 cut-at : (c : Config) (log : List ℕ) (previous at : ℕ) (fs gs : List (Frame Row)) (end : End) (k : ℕ)
-    → at ≤ length log → k ≤ length log → BackToBack log at fs → k ≡ after log at fs
+    → at ≤ length log → k ≤ length log → BackToBack log at fs → k ≡ byteAfter log at fs
     → framesAt c log previous at ≡ record { frames = fs ++ gs; ended = end }
     → framesAt c (take k log) previous at ≡ record { frames = fs; ended = tail k }
 cut-at c log previous at [] gs end k h g b is e =
@@ -125,7 +125,7 @@ cut-at c log previous at (f ∷ fs) gs end k h g b is e =
     ap (λ (x : List ℕ). frameAt c x previous at) (take-append-drop k log) ∙ s .here in
     frames-at-found c (take k log) previous at f (s .next) (frame-back c (take k log) (drop k log) previous at f (s .next) here inside)
     ∙ ap (join f) (cut-at c log (f .sequence) (s .next) fs gs end k room g (subst (λ (x : ℕ). BackToBack log x fs) (sym next-is) (b .3))
-    (is ∙ ap (λ (x : ℕ). after log x fs) (sym next-is)) (s .rest))
+    (is ∙ ap (λ (x : ℕ). byteAfter log x fs) (sym next-is)) (s .rest))
 
 read-back-to-back : (c : Config) (log : List ℕ) (fs : List (Frame Row)) (end : End)
     → framesOf c log ≡ record { frames = fs; ended = end } → BackToBack log 0 fs
@@ -134,38 +134,38 @@ read-back-to-back c log fs end e =
 
 -- the cut lies inside the log
 pub cut-inside : (c : Config) (log : List ℕ) (fs gs : List (Frame Row)) (end : End)
-    → framesOf c log ≡ record { frames = fs ++ gs; ended = end } → after log 0 fs ≤ length log
+    → framesOf c log ≡ record { frames = fs ++ gs; ended = end } → byteAfter log 0 fs ≤ length log
 cut-inside c log fs gs end e =
     after-most log 0 fs (omega arith) (back-to-back-front log 0 fs gs (read-back-to-back c log (fs ++ gs) end e))
 
 pub cut-length : (c : Config) (log : List ℕ) (fs gs : List (Frame Row)) (end : End)
-    → framesOf c log ≡ record { frames = fs ++ gs; ended = end } → length (take (after log 0 fs) log) ≡ after log 0 fs
-cut-length c log fs gs end e = length-take-le (after log 0 fs) log (cut-inside c log fs gs end e)
+    → framesOf c log ≡ record { frames = fs ++ gs; ended = end } → length (take (byteAfter log 0 fs) log) ≡ byteAfter log 0 fs
+cut-length c log fs gs end e = length-take-le (byteAfter log 0 fs) log (cut-inside c log fs gs end e)
 
 -- a log cut after some of its frames has these, and no tail
 pub cut-after : (c : Config) (log : List ℕ) (fs gs : List (Frame Row)) (end : End)
     → framesOf c log ≡ record { frames = fs ++ gs; ended = end }
-    → framesOf c (take (after log 0 fs) log) ≡ record { frames = fs; ended = tail (after log 0 fs) }
+    → framesOf c (take (byteAfter log 0 fs) log) ≡ record { frames = fs; ended = tail (byteAfter log 0 fs) }
 cut-after c log fs gs end e =
-    let k = after log 0 fs in
+    let k = byteAfter log 0 fs in
     frames-of c (take k log)
     ∙ cut-at c log 0 0 fs gs end k (omega arith) (cut-inside c log fs gs end e)
     (back-to-back-front log 0 fs gs (read-back-to-back c log (fs ++ gs) end e)) refl (sym (frames-of c log) ∙ e)
 
 -- the byte of the cut in the paper's words: the byte after the last frame, which is where the next one begins
-pub after-last : (log : List ℕ) (at : ℕ) (fs : List (Frame Row)) (f : Frame Row) → after log at (fs ++ (f ∷ [])) ≡ afterFrame log f
+pub after-last : (log : List ℕ) (at : ℕ) (fs : List (Frame Row)) (f : Frame Row) → byteAfter log at (fs ++ (f ∷ [])) ≡ afterFrame log f
 after-last log at [] f = refl
 after-last log at (g ∷ fs) f = after-last log (afterFrame log g) fs f
 
 pub next-start : (c : Config) (log : List ℕ) (fs : List (Frame Row)) (g : Frame Row) (gs : List (Frame Row)) (end : End)
-    → framesOf c log ≡ record { frames = fs ++ (g ∷ gs); ended = end } → g .start ≡ after log 0 fs
+    → framesOf c log ≡ record { frames = fs ++ (g ∷ gs); ended = end } → g .start ≡ byteAfter log 0 fs
 next-start c log fs g gs end e = back-to-back-rest log 0 fs (g ∷ gs) (read-back-to-back c log (fs ++ (g ∷ gs)) end e) .0
 
 -- the byte at which a log ends, in a tail or in a refusal, is the byte after its last frame
 pub end-after : (c : Config) (log : List ℕ) (fs : List (Frame Row)) (end : End)
-    → framesOf c log ≡ record { frames = fs; ended = end } → endedAt end ≡ after log 0 fs
+    → framesOf c log ≡ record { frames = fs; ended = end } → endedAt end ≡ byteAfter log 0 fs
 end-after c log fs end e =
-    subst (λ (r : Frames Row). endedAt (r .ended) ≡ after log 0 (r .frames)) (sym (frames-of c log) ∙ e) (ended-after c log 0 0)
+    subst (λ (r : Frames Row). endedAt (r .ended) ≡ byteAfter log 0 (r .frames)) (sym (frames-of c log) ∙ e) (ended-after c log 0 0)
 
 -- a log without its tail has the same frames
 pub cut-tail : (c : Config) (log : List ℕ) (fs : List (Frame Row)) (k : ℕ)

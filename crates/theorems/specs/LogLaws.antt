@@ -165,9 +165,9 @@ abbrev pub afterFrame : List ℕ → Frame Row → ℕ
 afterFrame log f = f .start + num log (f .start) 4 + 12
 
 -- the byte after frames that begin at `at`
-abbrev pub after : List ℕ → ℕ → List (Frame Row) → ℕ
-after log at [] = at
-after log at (f ∷ fs) = after log (afterFrame log f) fs
+abbrev pub byteAfter : List ℕ → ℕ → List (Frame Row) → ℕ
+byteAfter log at [] = at
+byteAfter log at (f ∷ fs) = byteAfter log (afterFrame log f) fs
 
 -- each frame begins where the one before it ends, and ends inside the log
 abbrev pub BackToBack : List ℕ → ℕ → List (Frame Row) → Type 0
@@ -195,19 +195,19 @@ back-to-back c log =
 
 -- the log ends, in a tail or in a refusal, after the last frame
 pub ended-after : (c : Config) (log : List ℕ) (previous at : ℕ)
-    → endedAt (framesAt c log previous at .ended) ≡ after log at (framesAt c log previous at .frames)
+    → endedAt (framesAt c log previous at .ended) ≡ byteAfter log at (framesAt c log previous at .frames)
 ended-after c log =
-    frames-induction c log (λ p a r. endedAt (r .ended) ≡ after log a (r .frames)) (λ p a e. refl) (λ p a why e. refl) λ p a f next e rest.
-    rest ∙ ap (λ (x : ℕ). after log x (framesAt c log (f .sequence) next .frames)) (after-frame c log p a f next e)
+    frames-induction c log (λ p a r. endedAt (r .ended) ≡ byteAfter log a (r .frames)) (λ p a e. refl) (λ p a why e. refl) λ p a f next e rest.
+    rest ∙ ap (λ (x : ℕ). byteAfter log x (framesAt c log (f .sequence) next .frames)) (after-frame c log p a f next e)
 
-pub after-least : (log : List ℕ) (at : ℕ) (fs : List (Frame Row)) → BackToBack log at fs → at ≤ after log at fs
+pub after-least : (log : List ℕ) (at : ℕ) (fs : List (Frame Row)) → BackToBack log at fs → at ≤ byteAfter log at fs
 after-least log at [] b = omega arith
 after-least log at (f ∷ fs) b =
     let far : at + 29 ≤ afterFrame log f = b .1 in
     let more = after-least log (afterFrame log f) fs (b .3) in
     omega arith
 
-pub after-most : (log : List ℕ) (at : ℕ) (fs : List (Frame Row)) → at ≤ length log → BackToBack log at fs → after log at fs ≤ length log
+pub after-most : (log : List ℕ) (at : ℕ) (fs : List (Frame Row)) → at ≤ length log → BackToBack log at fs → byteAfter log at fs ≤ length log
 after-most log at [] h b = h
 after-most log at (f ∷ fs) h b = after-most log (afterFrame log f) fs (b .2) (b .3)
 
@@ -216,7 +216,7 @@ pub back-to-back-front : (log : List ℕ) (at : ℕ) (fs gs : List (Frame Row)) 
 back-to-back-front log at [] gs b = tt
 back-to-back-front log at (f ∷ fs) gs b = (b .0, b .1, b .2, back-to-back-front log (afterFrame log f) fs gs (b .3))
 
-pub back-to-back-rest : (log : List ℕ) (at : ℕ) (fs gs : List (Frame Row)) → BackToBack log at (fs ++ gs) → BackToBack log (after log at fs) gs
+pub back-to-back-rest : (log : List ℕ) (at : ℕ) (fs gs : List (Frame Row)) → BackToBack log at (fs ++ gs) → BackToBack log (byteAfter log at fs) gs
 back-to-back-rest log at [] gs b = b
 back-to-back-rest log at (f ∷ fs) gs b = back-to-back-rest log (afterFrame log f) fs gs (b .3)
 
@@ -243,7 +243,7 @@ pub tail-bounds : (c : Config) (log : List ℕ) (previous at k : ℕ) → at ≤
 tail-bounds c log previous at k h e =
     let fs = framesAt c log previous at .frames in
     let b = back-to-back c log previous at in
-    let is : k ≡ after log at fs = sym (ap endedAt e) ∙ ended-after c log previous at in
+    let is : k ≡ byteAfter log at fs = sym (ap endedAt e) ∙ ended-after c log previous at in
     let low = after-least log at fs b in
     let high = after-most log at fs h b in
     (omega arith, omega arith)

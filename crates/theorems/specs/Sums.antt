@@ -17,7 +17,8 @@ use Rattle.meaning.specs.Replay.{active, mark, size, applyPut, applyRemove, app
 use Rattle.meaning.specs.Item.{coordinates, itemAt}
 use Rattle.meaning.specs.Snapshot.{Snapshot, readHeader, headerFor, recordAt, recordsAt, liveTwice, readSnapshot}
 use Rattle.meaning.specs.Log.{operationAt, operationsAt, batchAt, singleAt, payloadAt, lengthAt, frameAt, framesFrom, framesOf}
-use Rattle.meaning.specs.Recovery.{Recovered, Recovery, recovered, refusedSnapshot, refusedLog, recover, liveCount, recordCount, activeCount, sizeOf, tailLength}
+use Rattle.meaning.specs.Recovery.{Recovered, Recovery, recovered, refusedSnapshot, refusedLog, recover, liveCount, tailLength}
+use Rattle.meaning.specs.Calls.{recoveryTold, recoverTables}
 use Rattle.meaning.specs.Tables.{rowWords, activeNodes, entriesFrom, insert, nodesOf, packedRow}
 
 -- ---- the stores
@@ -90,6 +91,9 @@ pub record Sums : Type 0 where
   pub example-tail : tailLength exampleLog exampleRecovered ≡ 3
   pub example-rows : rowWords (exampleRecovered .state .records) ≡ 7 ∷ (9223372036854775808 + 4611686018427387904 + 25) ∷ 7 ∷ 4611967493404098624 ∷ []
   pub example-active : activeNodes (exampleRecovered .state .records) ≡ 1 ∷ []
+  pub example-told : recoveryTold exampleLog exampleRecovered ≡ record { config = settings 1 16 200 42 SquaredL2; crc = 354460059; sequence = 2; records = 2; active = 1; replayed = 2; skipped = 0; keep = 78; tail = 3; size = 36 }
+  -- with a row and an entry more than needed: zeros after
+  pub example-tables : recoverTables (9 ∷ 9 ∷ 9 ∷ 9 ∷ 9 ∷ 9 ∷ 9 ∷ []) (9 ∷ 9 ∷ 9 ∷ []) (recovered exampleRecovered) ≡ record { rows = 7 ∷ (9223372036854775808 + 4611686018427387904 + 25) ∷ 7 ∷ 4611967493404098624 ∷ 0 ∷ 0 ∷ 0 ∷ []; active = 1 ∷ 0 ∷ 0 ∷ [] }
   -- a still that is withdrawn stays withdrawn
   pub withdrawn : recover 4096 withdrawnSnapshot withdrawnLog ≡ recovered (record { config = settings 1 16 200 42 SquaredL2; crc = 1858255164; state = record { records = record { id = 7; deleted = true; fromLog = false; caption = 0; at = 61 } ∷ record { id = 8; deleted = true; fromLog = false; caption = 0; at = 84 } ∷ record { id = 9; deleted = true; fromLog = false; caption = 0; at = 104 } ∷ record { id = 9; deleted = true; fromLog = true; caption = 0; at = 68 } ∷ []; sequence = 5; replayed = 2; skipped = 1 }; keep = 121 })
 
@@ -120,5 +124,7 @@ sums =
       example-tail = refl;
       example-rows = refl;
       example-active = refl;
+      example-told = refl;
+      example-tables = refl;
       withdrawn = refl;
     }
