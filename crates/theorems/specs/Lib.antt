@@ -48,4 +48,3 @@ pub mod DeleteFrame
 pub mod Origin
 pub mod WriterInWords
 pub mod ExampleCut
-pub mod Validated

@@ -1,0 +1,12 @@
+pub mod Results
+pub mod ToldLaws
+pub mod HeaderLaws
+pub mod ItemLaws
+pub mod RecordLaws
+pub mod RowWords
+pub mod Reading
+pub mod BodyLaws
+pub mod Listing
+pub mod ZeroTail
+pub mod ActiveLaws
+pub mod FinishLaws
