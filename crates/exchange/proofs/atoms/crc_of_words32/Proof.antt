@@ -1,0 +1,76 @@
+-- `crc_of_words32` is safe and ends. The invariant is that of `crc_of_words`.
+use Prim.Native.Nat.{_≤_, _-_}
+use mathlib.Core.Path.{_≡_}
+use lib.ListN.{length}
+use borrow.Author.Needs.{needs}
+use Rattle.exchange.proofs.atoms.crc_of_words32.Statement.{statement}
+use Rattle.exchange.proofs.atoms.crc_of_words32.Tie as tie
+
+abbrev Inv-loop : tie.InvT-loop
+Inv-loop w t crc₀ word₀ i₀ crc word i = (i ≤ length w) × (length word ≡ 8)
+
+abbrev μ-loop : tie.MeasureT-loop
+μ-loop w t crc₀ word₀ i₀ crc word i = length w - i
+
+tables-requires : tie.Need-tables-requires Inv-loop μ-loop
+tables-requires c κs = search needs
+
+start-requires : tie.Need-start-requires Inv-loop μ-loop
+start-requires c κs = search needs
+
+loop-holds : tie.Need-loop-holds Inv-loop μ-loop
+loop-holds c = search needs
+
+slice-aggregate-put-u32 : tie.Need-slice-aggregate-put-u32 Inv-loop μ-loop
+slice-aggregate-put-u32 c = search needs
+
+mul-put-u32 : tie.Need-mul-put-u32 Inv-loop μ-loop
+mul-put-u32 c = search needs
+
+shared-slice-read-put-u32 : tie.Need-shared-slice-read-put-u32 Inv-loop μ-loop
+shared-slice-read-put-u32 c = search needs
+
+put-u32-requires : tie.Need-put-u32-requires Inv-loop μ-loop
+put-u32-requires c κs = search needs
+
+slice-aggregate-update : tie.Need-slice-aggregate-update Inv-loop μ-loop
+slice-aggregate-update c = search needs
+
+update-requires : tie.Need-update-requires Inv-loop μ-loop
+update-requires c κs = search needs
+
+add-i : tie.Need-add-i Inv-loop μ-loop
+add-i c = search needs
+
+loop-less : tie.Need-loop-less Inv-loop μ-loop
+loop-less c = search needs
+
+loop-again : tie.Need-loop-again Inv-loop μ-loop
+loop-again c = search needs
+
+finish-requires : tie.Need-finish-requires Inv-loop μ-loop
+finish-requires c κs = search needs
+
+returns : tie.Need-returns Inv-loop μ-loop
+returns c = search needs
+
+pub crc-of-words32-spec : {M : Type 1} → statement M
+crc-of-words32-spec =
+    tie.close
+    (tie.spec
+    Inv-loop
+    μ-loop
+    tables-requires
+    start-requires
+    loop-holds
+    slice-aggregate-put-u32
+    mul-put-u32
+    shared-slice-read-put-u32
+    put-u32-requires
+    slice-aggregate-update
+    update-requires
+    add-i
+    loop-less
+    loop-again
+    finish-requires
+    returns)

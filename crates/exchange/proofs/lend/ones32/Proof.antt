@@ -1,0 +1,52 @@
+-- `ones32` is safe and ends. The invariant: the index is at most the length, which stays.
+use Prim.Native.Nat.{_≤_, _-_}
+use mathlib.Core.Path.{_≡_}
+use lib.ListN.{length}
+use borrow.Author.Needs.{needs}
+use Rattle.exchange.proofs.lend.ones32.Statement.{statement}
+use Rattle.exchange.proofs.lend.ones32.Tie as tie
+
+abbrev Inv-loop : tie.InvT-loop
+Inv-loop entries₀ i₀ entries i = (i ≤ length entries₀) × (length entries ≡ length entries₀)
+
+abbrev μ-loop : tie.MeasureT-loop
+μ-loop entries₀ i₀ entries i = length entries₀ - i
+
+loop-holds : tie.Need-loop-holds Inv-loop μ-loop
+loop-holds c = search needs
+
+mul-entries : tie.Need-mul-entries Inv-loop μ-loop
+mul-entries c = search needs
+
+slice-write-entries : tie.Need-slice-write-entries Inv-loop μ-loop
+slice-write-entries c = search needs
+
+add-i : tie.Need-add-i Inv-loop μ-loop
+add-i c = search needs
+
+loop-less : tie.Need-loop-less Inv-loop μ-loop
+loop-less c = search needs
+
+loop-again : tie.Need-loop-again Inv-loop μ-loop
+loop-again c = search needs
+
+same-length : tie.Need-same-length Inv-loop μ-loop
+same-length c = search needs
+
+returns : tie.Need-returns Inv-loop μ-loop
+returns c = search needs
+
+pub ones32-spec : {M : Type 1} → statement M
+ones32-spec =
+    tie.close
+    (tie.spec
+    Inv-loop
+    μ-loop
+    loop-holds
+    mul-entries
+    slice-write-entries
+    add-i
+    loop-less
+    loop-again
+    same-length
+    returns)
