@@ -1,0 +1,33 @@
+-- The bytes of coordinates, one coordinate after the other.
+-- Assumes nothing.
+use Prim.Native.Nat.{ℕ, suc, _+_, _*_, _≤_, _<_}
+use mathlib.Core.Path.{_≡_, refl, sym, ap, _∙_}
+use mathlib.Core.List.{List, [], _∷_, _++_, append-assoc, append-nil}
+use native.Mathlib.Numerals.{add-one}
+use lib.ListN.{length, take, getD}
+use lib.Seq.{take-suc, take-length, length-take-le}
+use Rattle.fields.specs.Fields.{bytes}
+use Rattle.coordinates.specs.Coordinates.{coordinateBytes}
+use Rattle.coordinates.proofs.Patterns.{length-coordinateBytes}
+
+coordinates-append : (a b : List ℕ) → coordinateBytes (a ++ b) ≡ coordinateBytes a ++ coordinateBytes b
+unfolding coordinateBytes
+coordinates-append [] b = refl
+coordinates-append (x ∷ a) b = ap (λ (l : List ℕ). bytes 4 x ++ l) (coordinates-append a b) ∙ sym (append-assoc (bytes 4 x) (coordinateBytes a) (coordinateBytes b))
+
+coordinates-one : (x : ℕ) → coordinateBytes (x ∷ []) ≡ bytes 4 x
+unfolding coordinateBytes
+coordinates-one x = append-nil (bytes 4 x)
+
+pub coordinates-more : (cs : List ℕ) (i : ℕ) → i < length cs → coordinateBytes (take i cs) ++ bytes 4 (getD cs i 0) ≡ coordinateBytes (take (i + 1) cs)
+coordinates-more cs i h =
+    sym (ap (λ (k : ℕ). coordinateBytes (take k cs)) (add-one i)
+    ∙ ap coordinateBytes (take-suc cs i 0 h)
+    ∙ coordinates-append (take i cs) (getD cs i 0 ∷ [])
+    ∙ ap (λ (l : List ℕ). coordinateBytes (take i cs) ++ l) (coordinates-one (getD cs i 0)))
+
+pub coordinates-size : (cs : List ℕ) (i : ℕ) → i ≤ length cs → 4 * i ≡ length (coordinateBytes (take i cs))
+coordinates-size cs i h = sym (length-coordinateBytes (take i cs) ∙ ap (λ (k : ℕ). 4 * k) (length-take-le i cs h))
+
+pub coordinates-all : (cs : List ℕ) (i : ℕ) → i ≡ length cs → coordinateBytes (take i cs) ≡ coordinateBytes cs
+coordinates-all cs i e = ap (λ (k : ℕ). coordinateBytes (take k cs)) e ∙ ap coordinateBytes (take-length cs)

@@ -1,0 +1,126 @@
+-- Every test first; then the payload behind 8, and the seal around it.
+use mathlib.Core.Path.{_≡_, refl, sym, ap, _∙_}
+use Prim.Native.Nat.{ℕ, suc, _+_, _*_, _-_, _/_, _≤_, _<_}
+use native.Mathlib.Nat.{le-refl}
+use denote.Ref.{now}
+use borrow.Rule.Slice.PartMut.{mid-len, same-len-mid}
+use lib.ListN.{length}
+use Rattle.meaning.specs.Encoder.{asked, batch, payloadBytes, encode}
+use Rattle.encoder.specs.Steps.{writtenAll}
+use Rattle.encoder.proofs.AnswerLaws.{ready, output-sealed, output-refused}
+use native.Mathlib.Omega.{arith}
+use borrow.Author.Needs.{needs}
+use Rattle.encoder.proofs.encode_batch.Statement.{statement}
+use Rattle.encoder.proofs.encode_batch.Tie as tie
+
+check-requires : tie.Need-check-requires
+check-requires c κs = search needs
+
+enum-known-n : tie.Need-enum-known-n
+enum-known-n c = search needs
+
+enum-known-r : tie.Need-enum-known-r
+enum-known-r c = search needs
+
+returns : tie.Need-returns
+returns c =
+    let a = c .before .before .before .before .before .before .before .before .args in
+    let o = now (a .out) in
+    let told = sym (c .before .r .given .1) ∙ c .before .before .before .check .ensures in
+    (told, output-refused (encode batch (a .config) (a .sequence) (now (a .operations)) (now (a .coordinates)) (now (a .captions)) (length o)) o (c .before .r .given .0 .0) (sym told))
+
+sub-write-batch : tie.Need-sub-write-batch
+sub-write-batch c =
+    let a = c .before .before .before .before .before .before .before .before .args in
+    let words = now (a .operations) in
+    let coords = now (a .coordinates) in
+    let captions = now (a .captions) in
+    let o = now (a .out) in
+    let n = c .before .n .given .0 .0 in
+    let x = ready batch (a .config) (a .sequence) words coords captions (length o) n (sym (c .before .before .before .check .ensures) ∙ c .before .n .given .1) in
+    omega (arith, x .size-is, x .fits)
+
+part-write-batch-start : tie.Need-part-write-batch-start
+part-write-batch-start c =
+    let a = c .before .before .before .before .before .before .before .before .args in
+    let words = now (a .operations) in
+    let coords = now (a .coordinates) in
+    let captions = now (a .captions) in
+    let o = now (a .out) in
+    let n = c .before .n .given .0 .0 in
+    let x = ready batch (a .config) (a .sequence) words coords captions (length o) n (sym (c .before .before .before .check .ensures) ∙ c .before .n .given .1) in
+    omega (arith, x .size-is, x .fits)
+
+part-write-batch-end : tie.Need-part-write-batch-end
+part-write-batch-end c = search needs
+
+write-batch-requires : tie.Need-write-batch-requires
+write-batch-requires c κs =
+    let a = c .before .before .before .before .before .before .before .before .before .args in
+    let words = now (a .operations) in
+    let coords = now (a .coordinates) in
+    let captions = now (a .captions) in
+    let o = now (a .out) in
+    let n = c .before .before .n .given .0 .0 in
+    let x = ready batch (a .config) (a .sequence) words coords captions (length o) n (sym (c .before .before .before .before .check .ensures) ∙ c .before .before .n .given .1) in
+    let rest = mid-len 8 (length o) o (le-refl (length o)) in
+    (x .writable, (x .count-is .few, omega (arith, x .size-is, x .fits, rest)))
+
+sub-seal : tie.Need-sub-seal
+sub-seal c =
+    let a = c .before .before .before .before .before .before .before .before .before .before .before .before .before .args in
+    let words = now (a .operations) in
+    let coords = now (a .coordinates) in
+    let captions = now (a .captions) in
+    let o = now (a .out) in
+    let n = c .before .before .before .before .before .before .n .given .0 .0 in
+    let x = ready batch (a .config) (a .sequence) words coords captions (length o) n (sym (c .before .before .before .before .before .before .before .before .check .ensures) ∙ c .before .before .before .before .before .before .n .given .1) in
+    omega (arith, x .size-is)
+
+seal-requires : tie.Need-seal-requires
+seal-requires c κs =
+    let a = c .before .before .before .before .before .before .before .before .before .before .before .before .before .args in
+    let words = now (a .operations) in
+    let coords = now (a .coordinates) in
+    let captions = now (a .captions) in
+    let o = now (a .out) in
+    let n = c .before .before .before .before .before .before .n .given .0 .0 in
+    let x = ready batch (a .config) (a .sequence) words coords captions (length o) n (sym (c .before .before .before .before .before .before .before .before .check .ensures) ∙ c .before .before .before .before .before .before .n .given .1) in
+    let kept = same-len-mid 8 (length o - 8) o (c .before .before .before .write-batch .last .0) (c .before .before .before .write-batch .kept .0) in
+    (omega (arith, x .size-is, x .short), omega (arith, x .size-is, x .fits, kept))
+
+same-length : tie.Need-same-length
+same-length c = search needs
+
+returns-2 : tie.Need-returns-2
+returns-2 c =
+    let a = c .before .before .before .before .before .before .before .before .before .before .before .before .before .before .before .before .args in
+    let words = now (a .operations) in
+    let coords = now (a .coordinates) in
+    let captions = now (a .captions) in
+    let o = now (a .out) in
+    let n = c .before .before .before .before .before .before .before .before .before .n .given .0 .0 in
+    let x = ready batch (a .config) (a .sequence) words coords captions (length o) n (sym (c .before .before .before .before .before .before .before .before .before .before .before .check .ensures) ∙ c .before .before .before .before .before .before .before .before .before .n .given .1) in
+    let B = payloadBytes batch (a .sequence) (writtenAll (a .config .dimensions) coords captions (asked words)) in
+    let size : length B ≡ n - 12 = omega (arith, x .size-is) in
+    let fits : n - 12 + 12 ≤ length o = omega (arith, x .size-is, x .fits) in (
+      sym (c .before .before .before .before .before .before .before .before .before .n .given .1) ∙ c .before .before .before .before .before .before .before .before .before .before .before .check .ensures,
+      c .before .before .seal .ensures ∙ output-sealed (encode batch (a .config) (a .sequence) words coords captions (length o)) o B (c .before .before .before .before .before .before .write-batch .last .0) (n - 12) (x .encode-is) size fits (c .before .before .before .before .before .before .write-batch .ensures),
+    )
+
+pub encode-batch-spec : {M : Type 1} → statement M
+encode-batch-spec =
+    tie.close
+    (tie.spec
+    check-requires
+    enum-known-n
+    enum-known-r
+    returns
+    sub-write-batch
+    part-write-batch-start
+    part-write-batch-end
+    write-batch-requires
+    sub-seal
+    seal-requires
+    same-length
+    returns-2)

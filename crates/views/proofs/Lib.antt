@@ -1,0 +1,3 @@
+pub mod TableSteps
+pub mod FindLaws
+pub mod ViewLaws

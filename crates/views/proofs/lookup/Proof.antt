@@ -1,0 +1,33 @@
+-- `lookup` tests the count and scans.
+use Prim.Native.Nat.{ℕ, _<_, _≤_}
+use native.Mathlib.Omega.{arith}
+use mathlib.Core.Path.{_≡_, refl, sym, ap, _∙_}
+use borrow.Author.Needs.{needs}
+use borrow.Author.Tests.{lt-ltb, le-ltb}
+use Rattle.rows.specs.Lent.{rowsLentPlain}
+use Rattle.meaning.specs.Views.{lookup}
+use Rattle.views.proofs.lookup.Statement.{statement}
+use Rattle.views.proofs.lookup.Tie as tie
+
+rows-lent-plain-requires : tie.Need-rows-lent-plain-requires
+rows-lent-plain-requires c κs = search needs
+
+returns : tie.Need-returns
+unfolding lookup
+returns c =
+    let a = c .before .before .before .args in
+    let h : rowsLentPlain (a .rows .now) < a .count = omega arith in
+    simp (lt-ltb (rowsLentPlain (a .rows .now)) (a .count) h)
+
+find-requires : tie.Need-find-requires
+find-requires c κs = search needs
+
+returns-2 : tie.Need-returns-2
+unfolding lookup
+returns-2 c =
+    let a = c .before .before .before .before .args in
+    let h : a .count ≤ rowsLentPlain (a .rows .now) = omega arith in
+    simp (le-ltb (rowsLentPlain (a .rows .now)) (a .count) h) (c .find .ensures)
+
+pub lookup-spec : {M : Type 1} → statement M
+lookup-spec = tie.close (tie.spec rows-lent-plain-requires returns find-requires returns-2)

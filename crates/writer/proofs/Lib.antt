@@ -1,0 +1,4 @@
+pub mod TableSteps
+pub mod PlacedLaws
+pub mod WrittenLaws
+pub mod FileLaws
