@@ -1,6 +1,7 @@
 #!/usr/bin/env python3
 """requests.py ORIGINAL: writes stdin, a few requests of each call that is answered here, and stdout, what the original's
-program ORIGINAL answers to them. The last request is longer than a program takes; what it answers is in docs/QUESTIONS.md."""
+program ORIGINAL answers to them. The last request is longer than a program takes; what it answers is in docs/QUESTIONS.md.
+Of the calls on snapshots, tables and frames these are the first short ones of the fixed list, which tests/questions asks whole."""
 import pathlib
 import struct
 import subprocess
@@ -9,6 +10,9 @@ import sys
 HERE = pathlib.Path(__file__).parent
 MOST = 2**64 - 1
 LONGEST = 65536
+STORE = 7, 10, 11, 12, 13, 16, 17, 18, 23
+OF_EACH = 12
+SHORT = 600
 
 
 def body(call, numbers=(), parts=()):
@@ -18,6 +22,20 @@ def body(call, numbers=(), parts=()):
 
 def coordinates(metric, *bits):
     return body(5, [metric], [b"".join(struct.pack("<I", b) for b in bits)])
+
+
+def of_the_fixed_list():
+    stream = (HERE.parent.parent / "original" / "fixed" / "requests.bin").read_bytes()
+    taken = dict.fromkeys(STORE, 0)
+    at = 0
+    while at < len(stream):
+        (length,) = struct.unpack_from("<I", stream, at)
+        request = stream[at + 4 : at + 4 + length]
+        at += 4 + length
+        call = request[0] if request else 0
+        if length <= SHORT and taken.get(call, OF_EACH) < OF_EACH:
+            taken[call] += 1
+            yield request
 
 
 def requests():
@@ -64,6 +82,7 @@ def requests():
     yield body(5, [1], [bytes(8), b""])
     yield body(5, [1, 1], [bytes(8)])
     yield body(5, [], [bytes(8)])
+    yield from of_the_fixed_list()
     yield body(1, parts=[rising[: LONGEST - 7]])
 
 

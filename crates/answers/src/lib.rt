@@ -8,9 +8,16 @@ ghost use lib.ListN.{length};
 mod call_coordinates;
 mod call_crc;
 mod call_defaults;
+mod call_delete_frame;
+mod call_encode;
+mod call_lookup;
+mod call_read;
 mod call_rng_state;
 mod call_utf8;
 mod call_validate;
+mod call_view;
+mod call_write;
+mod records;
 
 use exchange::request;
 use exchange::request::Asked;
@@ -61,8 +68,17 @@ fn lines_of(
         4 => call_validate::lines(request, answer),
         5 => call_coordinates::lines(request, answer),
         6 => call_rng_state::lines(request, answer),
-        21 => call_crc::lines(request, answer),
-        22 => call_utf8::lines(request, answer),
+        7 => call_read::lines(request, words, coordinates, answer),
+        10 => call_encode::lines(false, request, words, coordinates, output, answer),
+        11 => call_encode::lines(true, request, words, coordinates, output, answer),
+        12 => call_write::lines(false, request, words, output, answer),
+        13 => call_write::lines(true, request, words, output, answer),
+        16 => call_lookup::lines(request, words, answer),
+        17 => call_view::lines(false, request, words, answer),
+        18 => call_view::lines(true, request, words, answer),
+        21 => call_crc::c_lines(request, answer),
+        22 => call_utf8::c_lines(request, answer),
+        23 => call_delete_frame::lines(request, output, answer),
         _ => text::line(answer, text::start(), b"not yet"),
     }
 }

@@ -4,7 +4,7 @@ use original::{
     beside::Beside,
     generate::{self, Kind, exhaustive},
 };
-use std::{env, fs, process::exit, time::Instant};
+use std::{collections::BTreeMap, env, fs, process::exit, time::Instant};
 
 const HELP: &str = "\
 host generated SEED N [KIND]   N generated requests
@@ -63,6 +63,7 @@ impl Lent {
 #[derive(Default)]
 struct Counts {
     alike: u64,
+    by_call: BTreeMap<u8, u64>,
     bad_requests: u64,
     not_yet: u64,
     ours: f64,
@@ -124,6 +125,7 @@ fn compare(bodies: impl Iterator<Item = Vec<u8>>) {
             exit(1);
         }
         counts.alike += 1;
+        *counts.by_call.entry(body.first().copied().unwrap_or(0)).or_default() += 1;
         counts.bad_requests += u64::from(given == b"bad request\n.\n");
     }
     println!(
@@ -134,6 +136,8 @@ fn compare(bodies: impl Iterator<Item = Vec<u8>>) {
         begin.elapsed().as_secs_f64(),
         counts.ours
     );
+    let by_call: Vec<String> = counts.by_call.iter().map(|(call, count)| format!("{call}: {count}")).collect();
+    println!("by call: {}", by_call.join(", "));
 }
 
 /// One byte of memory less than the text needs gives 0, and so does every smaller length.
