@@ -1,0 +1,9 @@
+pub mod OneAnswer
+pub mod Leaves
+pub mod Store
+pub mod Playout
+pub mod Output
+pub mod WrittenFile
+pub mod EncodedFrame
+pub mod DeleteFrame
+pub mod ReadAndWritten
