@@ -8,10 +8,9 @@ use lib.Dec.{ltb, eqb}
 use Rattle.config.specs.declared.Config.{Config}
 use Rattle.rows.specs.Lent.{rowsLent}
 use Rattle.meaning.specs.Refusal.{Refusal, number, Result, answer, refused}
-use Rattle.meaning.specs.Replay.{size}
-use Rattle.meaning.specs.Rows.{Row, rowKind}
+use Rattle.meaning.specs.Rows.{Row}
 use Rattle.meaning.specs.Snapshot.{Snapshot, readSnapshot}
-use Rattle.meaning.specs.Recovery.{Recovery, recovered, refusedSnapshot, refusedLog, Recovered, recover, liveCount, rowsOf, recordCount, activeCount, sizeOf, tailLength}
+use Rattle.meaning.specs.Recovery.{Recovery, recovered, refusedSnapshot, refusedLog, Recovered, recover, rowsOf, recordCount, activeCount, sizeOf, tailLength}
 use Rattle.meaning.specs.Tables.{rowWords, activeNodes, filled}
 use Rattle.meaning.specs.Writer.{Extent, write}
 use Rattle.meaning.specs.Encoder.{Shape, encode, deleteFrame}
@@ -24,26 +23,6 @@ pub record Tables : Type 0 where
 -- a row per record, the active nodes by rising ID, and zeros after; as long as what was lent
 abbrev pub tablesFor : List ℕ → List ℕ → List Row → Tables
 tablesFor words entries rows = record { rows = filled (length words) (rowWords rows); active = filled (length entries) (activeNodes rows) }
-
--- what an accepted snapshot's reading answers
-pub record SnapshotTold : Type 0 where
-  pub config : Config
-  pub crc : ℕ
-  pub sequence : ℕ
-  pub records : ℕ
-  pub active : ℕ
-  pub size : ℕ
-
-abbrev pub snapshotTold : Snapshot → SnapshotTold
-snapshotTold s =
-    record {
-      config = s .config;
-      crc = s .crc;
-      sequence = s .sequence;
-      records = length (s .rows);
-      active = liveCount (s .rows);
-      size = size (rowKind (s .config .dimensions)) (s .rows);
-    }
 
 abbrev pub readCall : List ℕ → List ℕ → List ℕ → Result Snapshot
 readCall words entries snapshot = readSnapshot (rowsLent words entries) snapshot
