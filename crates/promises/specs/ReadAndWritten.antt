@@ -4,7 +4,7 @@ use Prim.Native.Nat.{ℕ, _≤_, suc, _+_}
 use native.Mathlib.Omega.{arith}
 use mathlib.Core.Path.{_≡_, refl, sym, ap, _∙_, subst, transport}
 use mathlib.Core.Bool.{cond}
-use mathlib.Core.List.{List, [], _∷_, map}
+use mathlib.Core.List.{List, [], _∷_, _++_, map}
 use lib.ListN.{length, length-map, take}
 use Rattle.crc32.specs.Crc.{crcOf}
 use Rattle.fields.specs.Fields.{Bytes}
@@ -75,16 +75,18 @@ before-the-first lent snapshot log S e =
       short = omega arith;
     }
 
--- A snapshot is read, and what the call told and left in the tables is handed to `write_snapshot`, which answers n bytes: beside any log
--- they recover to the same records, settings, sequence, tail and replayed plus skipped as the snapshot itself, or to the same refusal.
-pub read-then-written : (words active snapshot log : List ℕ) → Bytes snapshot → Bytes log
+-- A snapshot is read, and what the call told and left in the tables is handed to `write_snapshot` with any log (an empty one, say), and
+-- it answers n bytes: beside any other log they recover to the same records, settings, sequence, tail and replayed plus skipped as the
+-- snapshot itself, or to the same refusal.
+pub read-then-written : (words active snapshot : List ℕ) → Bytes snapshot
     → (info : SnapshotInfo) (rows' active' : List ℕ) → ReadSnapshotMeets snapshot words active (Snapshots.Accepted info) rows' active'
-    → (n : ℕ) (out after : List ℕ) → WriteMeets (info .config) (info .sequence) rows' (info .records) snapshot log out (Writtens.Bytes n) after
+    → (lentLog : List ℕ) (n : ℕ) (out after : List ℕ) → WriteMeets (info .config) (info .sequence) rows' (info .records) snapshot lentLog out (Writtens.Bytes n) after
+    → (log : List ℕ) → Bytes log
     → told (take n after) log (recover (rowsLent words active) (take n after) log) ≡ told snapshot log (recover (rowsLent words active) snapshot log)
-read-then-written words active snapshot log bs bl info rows' active' read n out after wrote =
+read-then-written words active snapshot bs info rows' active' read lentLog n out after wrote log bl =
     let a = accepts (readCall words active snapshot) info (read .result-is) in
-    output-beside-the-whole-log words active snapshot log (before-the-first (rowsLent words active) snapshot log (a .snapshot) (a .is)) bs bl n out after
-    (transport (λ i. WriteMeets (a .settings i) (a .sequence i) ((read .rows-are ∙ ap (λ x. readTables words active x .rows) (a .is)) i) (a .records i) snapshot log out (Writtens.Bytes n) after) wrote)
+    output-beside-the-whole-log words active snapshot log (before-the-first (rowsLent words active) snapshot log (a .snapshot) (a .is)) bs bl lentLog n out after
+    (transport (λ i. WriteMeets (a .settings i) (a .sequence i) ((read .rows-are ∙ ap (λ x. readTables words active x .rows) (a .is)) i) (a .records i) snapshot lentLog out (Writtens.Bytes n) after) wrote)
 
 -- ---- written, then read
 -- its rows are as many, as many of them live, and as large
@@ -157,10 +159,11 @@ module _ (lent : ℕ) (snapshot log : List ℕ) (s : Recovered) (bs : Bytes snap
         size = sizes i;
       })
 
--- The state at a cut is handed to `write_snapshot`, which answers n bytes: `read_snapshot`, lent rows enough, accepts them, and tells the
--- settings, sequence, records, active and size of that state, and the CRC of the file's body.
-pub written-then-read : (words active snapshot log : List ℕ) (cut : Cut (rowsLent words active) snapshot log) → Bytes snapshot → Bytes log → (n : ℕ) (out after : List ℕ)
-    → WritesState words active (there cut) snapshot log out (Writtens.Bytes n) after
+-- The state at a cut is handed to `write_snapshot`, with the log's front up to the cut and anything behind it, and it answers n bytes:
+-- `read_snapshot`, lent rows enough, accepts them, and tells the settings, sequence, records, active and size of that state, and the CRC
+-- of the file's body.
+pub written-then-read : (words active snapshot log : List ℕ) (cut : Cut (rowsLent words active) snapshot log) → Bytes snapshot → Bytes log
+    → (more : List ℕ) (n : ℕ) (out after : List ℕ) → WritesState words active (there cut) snapshot (take (place cut) log ++ more) out (Writtens.Bytes n) after
     → (lentRows lentActive : List ℕ) → recordCount (there cut) ≤ rowsLent lentRows lentActive
     → (r : ReadSnapshot) (rows' active' : List ℕ) → ReadSnapshotMeets (take n after) lentRows lentActive r rows' active'
     → r
@@ -173,8 +176,8 @@ pub written-then-read : (words active snapshot log : List ℕ) (cut : Cut (rowsL
       active = activeCount (there cut);
       size = sizeOf (there cut);
     })
-written-then-read words active snapshot log cut bs bl n out after wrote lentRows lentActive enough r rows' active' read =
+written-then-read words active snapshot log cut bs bl more n out after wrote lentRows lentActive enough r rows' active' read =
     read .result-is
-    ∙ ap (λ (file : List ℕ). readTold (readCall lentRows lentActive file)) (output-is-new-snapshot words active snapshot log cut bs bl n out after wrote .0)
+    ∙ ap (λ (file : List ℕ). readTold (readCall lentRows lentActive file)) (output-is-new-snapshot words active snapshot log cut bs bl more n out after wrote .0)
     ∙ told-of-full (rowsLent words active) snapshot (take (place cut) log) (there cut) bs (Bytes-take (place cut) log bl) (front-recovers cut)
-    (new-snapshot-short words active snapshot log cut bs bl n out after wrote) (rowsLent lentRows lentActive) enough
+    (new-snapshot-short words active snapshot log cut bs bl more n out after wrote) (rowsLent lentRows lentActive) enough

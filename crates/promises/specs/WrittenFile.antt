@@ -5,7 +5,7 @@ use mathlib.Core.Logic.{_⊎_, inl, inr}
 use mathlib.Core.Bool.{Bool, true, false, cond}
 use mathlib.Core.List.{List, _++_, map}
 use lib.Dec.{ltb}
-use lib.ListN.{length, take, drop}
+use lib.ListN.{length, take, drop, take-append-drop}
 use Rattle.config.specs.Limits.{maxSnapshotBytes}
 use Rattle.config.specs.declared.Config.{Config}
 use Rattle.fields.specs.Fields.{Bytes}
@@ -36,30 +36,36 @@ abbrev pub WritesStateCompacted : List ℕ → List ℕ → Recovered → List �
 WritesStateCompacted words active s snapshot log out r after =
     WriteCompactedMeets (s .config) (s .state .sequence) (recoverTables words active (recovered s) .rows) (recordCount s) snapshot log out r after
 
--- ---- Demand 3: the state is that at a cut, and `write_snapshot` answers n bytes.
+-- lent the whole log, it is lent the front up to a cut with the rest behind it
+pub whole-log-lent : (k : ℕ) (words active : List ℕ) (s : Recovered) (snapshot log out : List ℕ) (r : Written) (after : List ℕ)
+    → WritesState words active s snapshot log out r after → WritesState words active s snapshot (take k log ++ drop k log) out r after
+whole-log-lent k words active s snapshot log out r after = subst (λ (l : List ℕ). WritesState words active s snapshot l out r after) (sym (take-append-drop k log))
+
+-- ---- Demand 3: the state is that at a cut, and `write_snapshot`, lent the log's front up to the cut with anything behind it, answers n
+-- bytes. Nothing behind it is the front that was recovered; `drop (place cut) log` behind it is the whole log (`whole-log-lent`).
 module _ (words active snapshot log : List ℕ) (cut : Cut (rowsLent words active) snapshot log) (bs : Bytes snapshot) (bl : Bytes log)
-    (n : ℕ) (out after : List ℕ) (meets : WritesState words active (there cut) snapshot log out (Writtens.Bytes n) after) where
-  wrote : Holds (write full (there cut .config) (there cut .state .sequence) (recoverTables words active (recovered (there cut)) .rows) (recordCount (there cut)) snapshot log (length out)) n out after
+    (more : List ℕ) (n : ℕ) (out after : List ℕ) (meets : WritesState words active (there cut) snapshot (take (place cut) log ++ more) out (Writtens.Bytes n) after) where
+  wrote : Holds (write full (there cut .config) (there cut .state .sequence) (recoverTables words active (recovered (there cut)) .rows) (recordCount (there cut)) snapshot (take (place cut) log ++ more) (length out)) n out after
   wrote = written-holds _ n out after (meets .result-is) (meets .output-is)
 
   -- the first n bytes of the output are the full snapshot of the state at the cut, and the rest is untouched
   pub output-is-new-snapshot : (take n after ≡ newSnapshot cut) × (drop n after ≡ drop n out)
   output-is-new-snapshot =
-      (sym (is-new words active snapshot log cut bs bl (length out) (take n after) (wrote .bytes-given) .1), wrote .rest-untouched)
+      (sym (is-new words active snapshot log cut bs bl more (length out) (take n after) (wrote .bytes-given) .1), wrote .rest-untouched)
 
   -- it keeps to the limit
   pub new-snapshot-short : length (newSnapshot cut) ≤ maxSnapshotBytes
-  new-snapshot-short = is-new words active snapshot log cut bs bl (length out) (take n after) (wrote .bytes-given) .0
+  new-snapshot-short = is-new words active snapshot log cut bs bl more (length out) (take n after) (wrote .bytes-given) .0
 
   -- recovering those bytes beside the whole log gives the same records, settings, sequence, tail and replayed plus skipped as the old
   -- snapshot did, or the same refusal at the same byte
   pub output-beside-the-whole-log : told (take n after) log (recover (rowsLent words active) (take n after) log) ≡ told snapshot log (recover (rowsLent words active) snapshot log)
-  output-beside-the-whole-log = written-beside-the-whole-log words active snapshot log cut bs bl (length out) (take n after) (wrote .bytes-given)
+  output-beside-the-whole-log = written-beside-the-whole-log words active snapshot log cut bs bl more (length out) (take n after) (wrote .bytes-given)
 
   -- if the old pair was accepted, the log without the cut-off front also gives those records, settings, sequence and tail
   pub output-without-the-front : (old : Recovered) → recover (rowsLent words active) snapshot log ≡ recovered old
       → brief (take n after) (drop (place cut) log) (recover (rowsLent words active) (take n after) (drop (place cut) log)) ≡ brief snapshot log (recovered old)
-  output-without-the-front = written-without-the-front words active snapshot log cut bs bl (length out) (take n after) (wrote .bytes-given)
+  output-without-the-front = written-without-the-front words active snapshot log cut bs bl more (length out) (take n after) (wrote .bytes-given)
 
 -- ---- The writers refuse a state that recovery gave by 34 and 32 alone, lent the log that was read or a longer one.
 -- an answer that is n bytes, or a refusal by 34 or 32

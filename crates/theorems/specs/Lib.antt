@@ -45,6 +45,7 @@ pub mod Meant
 pub mod EncodeBack
 pub mod Appended
 pub mod DeleteFrame
+pub mod DeleteRecovered
 pub mod Origin
 pub mod WriterInWords
 pub mod ExampleCut

@@ -1,13 +1,14 @@
--- Demand 3 over the answer of the writer itself: the file is what `write` gives for the tables that recovery left at the cut, lent the whole log.
+-- Demand 3 over the answer of the writer itself: the file is what `write` gives for the tables that recovery left at the cut, lent the
+-- log's front up to the cut with anything behind it, or nothing.
 use Prim.Native.Nat.{ℕ, _+_, _*_, _≤_}
 use native.Mathlib.Omega.{arith}
 use mathlib.Core.Path.{_≡_, refl, sym, ap, _∙_, subst}
 use mathlib.Core.Bool.{Bool}
 use mathlib.Core.List.{List, _++_, map}
-use lib.ListN.{length, take, drop, take-append-drop}
+use lib.ListN.{length, take, drop}
 use lib.Dec.{ltb}
 use Rattle.fields.specs.Fields.{Bytes}
-use Rattle.fields.proofs.Numbers.{Bytes-left}
+use Rattle.fields.proofs.Numbers.{Bytes-take}
 use Rattle.config.specs.Limits.{maxSnapshotBytes}
 use Rattle.config.specs.declared.Config.{Config}
 use Rattle.rows.specs.Lent.{rowsLent}
@@ -40,25 +41,21 @@ length-full lent snapshot log r bs bl e =
     let wide = all-wide (c .dimensions) rs (all-shaped c rs (all-readable c rs (seen-fit c snapshot log (rowsOf r) placed))) in
     length-file c (r .state .sequence) rs wide ∙ ap (λ (n : ℕ). 56 + n) (size-seen c snapshot log (rowsOf r) placed))
 
-module _ (words active snapshot log : List ℕ) (cut : Cut (rowsLent words active) snapshot log) (bs : Bytes snapshot) (bl : Bytes log) (room : ℕ) (file : List ℕ)
-    (wrote : write full (there cut .config) (there cut .state .sequence) (recoverTables words active (recovered (there cut)) .rows) (recordCount (there cut)) snapshot log room ≡ answer file) where
+module _ (words active snapshot log : List ℕ) (cut : Cut (rowsLent words active) snapshot log) (bs : Bytes snapshot) (bl : Bytes log) (more : List ℕ) (room : ℕ) (file : List ℕ)
+    (wrote : write full (there cut .config) (there cut .state .sequence) (recoverTables words active (recovered (there cut)) .rows) (recordCount (there cut)) snapshot (take (place cut) log ++ more) room ≡ answer file) where
   abbrev front : List ℕ
   front = take (place cut) log
 
   abbrev rest : List ℕ
   rest = drop (place cut) log
 
-  whole : front ++ rest ≡ log
-  whole = take-append-drop (place cut) log
-
   bytes-front : Bytes front
-  bytes-front = Bytes-left front rest (subst Bytes (sym whole) bl)
+  bytes-front = Bytes-take (place cut) log bl
 
   pub is-new : (length (newSnapshot cut) ≤ maxSnapshotBytes) × (newSnapshot cut ≡ file)
   is-new =
       let r = there cut in
-      let e = sym (writer-writes words active snapshot front rest r bs bytes-front (front-recovers cut) room)
-      ∙ ap (λ (l : List ℕ). write full (r .config) (r .state .sequence) (recoverTables words active (recovered r) .rows) (recordCount r) snapshot l room) whole ∙ wrote in
+      let e = sym (writer-writes words active snapshot front more r bs bytes-front (front-recovers cut) room) ∙ wrote in
       let s1 = went tooLarge (ltb maxSnapshotBytes (fileLength (r .config .dimensions) (rowsOf r))) _ file e in
       let s2 = went outputTooShort (ltb room (fileLength (r .config .dimensions) (rowsOf r))) _ file (s1 .then) in
       let n = not-less maxSnapshotBytes (fileLength (r .config .dimensions) (rowsOf r)) (s1 .test-false) in

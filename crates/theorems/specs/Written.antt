@@ -32,7 +32,7 @@ use Rattle.theorems.specs.AtTheCut.{Standing, standing}
 use Rattle.theorems.specs.Demand3.{fullSnapshot, seen-fronts}
 
 -- a row that lies in sources of this size keeps to its widths
-row-packs : (c : Config) (snapshot log : List ℕ) → length snapshot ≤ maxSnapshotBytes → length log ≤ maxLogBytes → (r : Row) → Placed c snapshot log r → Packs r
+pub row-packs : (c : Config) (snapshot log : List ℕ) → length snapshot ≤ maxSnapshotBytes → length log ≤ maxLogBytes → (r : Row) → Placed c snapshot log r → Packs r
 row-packs c snapshot log ls ll r p =
     let n = caption-there c snapshot log r p in
     let k : r .caption ≤ maxMetadata = let h = p .fit .caption-length in omega arith in
