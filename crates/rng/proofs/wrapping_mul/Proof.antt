@@ -1,5 +1,6 @@
 -- `wrapping_mul` gives the product modulo 2^64: `mod-of-halves` at H = 2^32. Each product of two halves fits.
-use mathlib.Core.Path.{sym, _∙_}
+use Prim.Native.Nat.{_+_, _*_, _/_, _%_, _^_}
+use mathlib.Core.Path.{_≡_, sym, _∙_}
 use borrow.Author.Needs.{needs}
 use lib.Dec.{lit<}
 use Rattle.rng.proofs.Halves.{mod-of-halves, product-below}
@@ -25,7 +26,14 @@ wrapping-add-u64-requires : tie.Need-wrapping-add-u64-requires
 wrapping-add-u64-requires c κs = search needs
 
 returns : tie.Need-returns
-returns c = c .wrapping-add-u64 .ensures ∙ sym (mod-of-halves 4294967296 (c .before .args .a) (c .before .args .b))
+returns c =
+    let a = c .before .args .a in
+    let b = c .before .args .b in
+    let low = a % 4294967296 * (b % 4294967296) in
+    let first = a / 4294967296 * (b % 4294967296) % 4294967296 in
+    let second = a % 4294967296 * (b / 4294967296) % 4294967296 in
+    let sum : c .wrapping-add-u64 .result ≡ ((first + second) % 4294967296 * 4294967296 + low) % 2 ^ 64 = c .wrapping-add-u64 .ensures in
+    sum ∙ sym (mod-of-halves 4294967296 a b)
 
 pub wrapping-mul-spec : {M : Type 1} → statement M
 wrapping-mul-spec =
