@@ -24,7 +24,7 @@ use Rattle.frames.proofs.Fronts.{length-frame, sealed-payload}
 use Rattle.encoder.specs.declared.Encoded.the-variants as Answers
 use Rattle.encoder.specs.Told.{told}
 use Rattle.encoder.specs.Steps.{wordsChecked, requestChecked, writtenAll, Writable}
-use Rattle.encoder.proofs.Results.{refused-no-answer, answer-injective, passed, went}
+use Rattle.meaning.proofs.Results.{refused-no-answer, answer-injective, passed, went}
 use Rattle.encoder.proofs.WrittenLaws.{all-written}
 use Rattle.encoder.proofs.RequestLaws.{Counting, counting, encode-valid}
 

@@ -28,7 +28,7 @@ use Rattle.encoder.specs.declared.Checked.{Checked}
 use Rattle.encoder.specs.declared.Checked.the-variants as Checks
 use Rattle.encoder.specs.Told.{operationTold, operationsTold}
 use Rattle.encoder.specs.Steps.{askedAt, captionTold}
-use Rattle.encoder.proofs.Results.{pass, stop}
+use Rattle.meaning.proofs.Results.{pass, stop}
 
 -- ---- a put
 abbrev pub afterVector : Checked → Vector → Checked

@@ -1,4 +1,3 @@
-pub mod Results
 pub mod CheckLaws
 pub mod WrittenLaws
 pub mod RequestLaws

@@ -26,7 +26,7 @@ use Rattle.encoder.specs.declared.Counted.{Counted}
 use Rattle.encoder.specs.declared.Counted.the-variants as Counts
 use Rattle.encoder.specs.Told.{told, countTold, operationsTold}
 use Rattle.encoder.specs.Steps.{wordsChecked, requestChecked, headLength, roomTold}
-use Rattle.encoder.proofs.Results.{refused-no-answer, passed, went, pass, stop, go-on}
+use Rattle.meaning.proofs.Results.{refused-no-answer, passed, went, pass, stop, go-on}
 use Rattle.encoder.proofs.WrittenLaws.{Count, all-written, length-written, length-asked, length-payload}
 
 -- ---- the settings

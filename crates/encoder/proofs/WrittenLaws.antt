@@ -19,7 +19,7 @@ use Rattle.meaning.specs.Refusal.{captionTooLong, requestMalformed, notUtf8, Re
 use Rattle.meaning.specs.Item.{coordinates}
 use Rattle.meaning.specs.Encoder.{Asked, askedFrom, isPut, captionOf, captionAt, Encoded, encodePut, encodeDelete, encodeAll, Shape, single, batch, taggedBytes, payloadBytes}
 use Rattle.encoder.specs.Steps.{headLength, written, writtenAll, Inside, AllInside}
-use Rattle.encoder.proofs.Results.{answer-injective, passed, went}
+use Rattle.meaning.proofs.Results.{answer-injective, passed, went}
 
 -- ---- one operation
 pub put-written : (c : Config) (coords captions : List ℕ) (o : Asked) (e : Encoded) → encodePut c coords captions o ≡ answer e

@@ -3,7 +3,9 @@
 -- caller learns from the contract in the source is this. A view is a slice: its bytes, and the place of the first (`ptr`).
 use Prim.Native.Nat.{ℕ}
 use mathlib.Core.Path.{_≡_}
+use mathlib.Core.Bool.{Bool, cond}
 use mathlib.Core.List.{List}
+use lib.ListN.{length}
 use denote.Ref.{RefT, now}
 use Rattle.config.specs.declared.Config.{Config}
 use Rattle.rows.specs.declared.Node.{Node}
@@ -27,6 +29,7 @@ use Rattle.snapshot.proofs.read_snapshot.Reads as ReadSnapshotCall
 use Rattle.views.proofs.lookup.Reads as LookupCall
 use Rattle.views.proofs.caption_view.Reads as CaptionViewCall
 use Rattle.views.proofs.caption_number.Reads as CaptionNumberCall
+use Rattle.views.proofs.source_length.Reads as SourceLengthCall
 use Rattle.views.proofs.vector_view.Reads as VectorViewCall
 use Rattle.views.proofs.vector_number.Reads as VectorNumberCall
 use Rattle.writer.proofs.write_snapshot.Reads as WriteCall
@@ -128,6 +131,18 @@ pub vector-number-contract : (κs : _) (snapshot log rows : RefT (List ℕ)) (co
     → VectorNumberCall.Learnt κs (snapshot, (log, (rows, (count, (node, (d, tt)))))) r (snapshot, (log, (rows, (count, (node, (d, tt))))))
     → VectorNumberMeets (now snapshot) (now log) (now rows) count node d r
 vector-number-contract κs snapshot log rows count node d r p = record { result-is = p }
+
+-- source_length(snapshot, log, logged)
+pub record SourceLengthMeets (snapshot log : List ℕ) (logged : Bool) (r : ℕ) : Type 0 where
+  pub result-is : r ≡ length (cond logged log snapshot)
+
+pub source-length-one-answer : {snapshot log : List ℕ} {logged : Bool} {r r' : ℕ}
+    → SourceLengthMeets snapshot log logged r → SourceLengthMeets snapshot log logged r' → r ≡ r'
+source-length-one-answer m n = one-answer (m .result-is) (n .result-is)
+
+pub source-length-contract : (κs : _) (snapshot log : RefT (List ℕ)) (logged : Bool) (r : ℕ)
+    → SourceLengthCall.Learnt κs (snapshot, (log, (logged, tt))) r (snapshot, (log, (logged, tt))) → SourceLengthMeets (now snapshot) (now log) logged r
+source-length-contract κs snapshot log logged r p = record { result-is = p }
 
 -- ---- writer
 -- write_snapshot(config, sequence, rows, count, snapshot, log, out): the answer and the output after

@@ -21,7 +21,7 @@ use Rattle.snapshot.specs.Steps.{bodyRead, partsRead, onceActive}
 use Rattle.snapshot.specs.declared.ReadHeader.the-variants as Headers
 use Rattle.snapshot.specs.declared.ReadRecords.the-variants as AllRecords
 use Rattle.snapshot.specs.declared.ReadParts.the-variants as AllParts
-use Rattle.snapshot.proofs.Results.{pass, stop, go-on, passed, went, answer-injective, bind-assoc, same-next}
+use Rattle.meaning.proofs.Results.{pass, stop, go-on, passed, went, answer-injective, bind-assoc, same-next}
 use Rattle.snapshot.proofs.HeaderLaws.{header-within}
 use Rattle.snapshot.proofs.Reading.{record-packs}
 use Rattle.snapshot.proofs.RowWords.{Every, Packs}

@@ -27,7 +27,7 @@ use Rattle.snapshot.specs.declared.ReadHeader.{ReadHeader}
 use Rattle.snapshot.specs.Told.{metricTold, headerTold, meantHeader}
 use Rattle.snapshot.specs.Steps.{countedHeader}
 use Rattle.snapshot.specs.declared.ReadHeader.the-variants as Headers
-use Rattle.snapshot.proofs.Results.{pass, stop, passed, went, answer-injective, refused-no-answer}
+use Rattle.meaning.proofs.Results.{pass, stop, passed, went, answer-injective, refused-no-answer}
 
 -- the records that fit in
 abbrev pub roomFor : List ℕ → Version → Config → ℕ

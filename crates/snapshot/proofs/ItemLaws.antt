@@ -19,7 +19,7 @@ use Rattle.snapshot.specs.declared.ReadItem.{ReadItem}
 use Rattle.snapshot.specs.Told.{itemTold}
 use Rattle.snapshot.specs.Steps.{captionAt}
 use Rattle.snapshot.specs.declared.ReadItem.the-variants as Items
-use Rattle.snapshot.proofs.Results.{pass, stop, passed, went, answer-injective}
+use Rattle.meaning.proofs.Results.{pass, stop, passed, went, answer-injective}
 
 module _ (s : List ℕ) (end at : ℕ) where
   pub caption-no-length : end < at + 4 → captionAt s end at ≡ refused pastTheEnd

@@ -1,4 +1,3 @@
-pub mod Results
 pub mod ToldLaws
 pub mod HeaderLaws
 pub mod ItemLaws

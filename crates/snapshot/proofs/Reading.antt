@@ -17,7 +17,7 @@ use Rattle.snapshot.specs.declared.ReadRecords.{ReadRecords}
 use Rattle.snapshot.specs.Told.{recordTold, recordsTold}
 use Rattle.snapshot.specs.declared.ReadRecord.the-variants as Records
 use Rattle.snapshot.specs.declared.ReadRecords.the-variants as AllRecords
-use Rattle.snapshot.proofs.Results.{go-on}
+use Rattle.meaning.proofs.Results.{go-on}
 use Rattle.snapshot.proofs.RecordLaws.{record-within}
 use Rattle.snapshot.proofs.RowWords.{Packs, set-row-next}
 

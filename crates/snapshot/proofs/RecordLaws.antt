@@ -18,7 +18,7 @@ use Rattle.snapshot.specs.declared.ReadRecord.{ReadRecord}
 use Rattle.snapshot.specs.Told.{itemTold, recordTold}
 use Rattle.snapshot.specs.declared.ReadItem.the-variants as Items
 use Rattle.snapshot.specs.declared.ReadRecord.the-variants as Records
-use Rattle.snapshot.proofs.Results.{pass, stop, passed, went, answer-injective}
+use Rattle.meaning.proofs.Results.{pass, stop, passed, went, answer-injective}
 use Rattle.snapshot.proofs.ItemLaws.{item-within}
 
 abbrev pub afterItem : Config → List ℕ → ℕ → ReadItem → ReadRecord

@@ -1,10 +1,11 @@
--- Laws of tests and of answers: what an answer says of every test that was passed on the way to it.
+-- Laws of tests and of answers, beside those that stand with the definitions (`meaning`'s Results).
 use Prim.Native.Nat.{ℕ, _≤_, _<_}
 use native.Mathlib.Omega.{arith}
 use mathlib.Core.Path.{_≡_, refl, sym, ap, subst, _∙_}
 use mathlib.Core.Bool.{Bool, true, false, not, cond, true≢false, false≢true}
 use lib.Dec.{T, ltb, eqb, ltb→lt, nltb→le, eqb→eq, eqb-refl}
 use Rattle.meaning.specs.Refusal.{Refusal, Result, answer, refused, _>>=_, refuse}
+pub use Rattle.meaning.proofs.Results.{IsAnswer, answerOr, answer-injective, refused-no-answer, Passed, passed, Went, went, pass, go-on}
 
 -- ---- tests
 pub not-less : (a b : ℕ) → ltb a b ≡ false → b ≤ a
@@ -63,52 +64,10 @@ same-equal a b x y f g =
     same-test (eqb a b) (eqb x y) (λ e. equal-true x y (f (equal a b e))) (λ e. equal-true a b (g (equal x y e)))
 
 -- ---- answers
-module _ {A : Type 0} where
-  abbrev pub IsAnswer : Result A → Type 0
-  IsAnswer (answer a) = Unit
-  IsAnswer (refused why) = ⊥
-
-  abbrev pub answerOr : A → Result A → A
-  answerOr z (answer a) = a
-  answerOr z (refused why) = z
-
-  pub answer-injective : (a b : A) → answer a ≡ answer b → a ≡ b
-  answer-injective a b e = ap (answerOr a) e
-
-  pub refused-no-answer : (why : Refusal) (a : A) → refused why ≡ answer a → ⊥
-  refused-no-answer why a e = subst IsAnswer (sym e) tt
-
--- what was passed on the way to an answer
-pub record Passed {A B : Type 0} (r : Result A) (next : A → Result B) (b : B) : Type 0 where
-  pub value : A
-  pub first : r ≡ answer value
-  pub then : next value ≡ answer b
-
-pub passed : {A B : Type 0} (r : Result A) (next : A → Result B) (b : B) → (r >>= next) ≡ answer b → Passed r next b
-passed (answer a) next b e = record { value = a; first = refl; then = e }
-passed (refused why) next b e = absurd (refused-no-answer why b e)
-
-pub record Went {B : Type 0} (test : Bool) (next : Result B) (b : B) : Type 0 where
-  pub test-false : test ≡ false
-  pub then : next ≡ answer b
-
-pub went : {B : Type 0} (why : Refusal) (test : Bool) (next : Unit {0} → Result B) (b : B)
-    → (refuse why test >>= next) ≡ answer b → Went test (next tt) b
-went why true next b e = absurd (refused-no-answer why b e)
-went why false next b e = record { test-false = refl; then = e }
-
--- a test that fails is passed
-pub pass : {B : Type 0} (why : Refusal) (test : Bool) (next : Unit {0} → Result B) → test ≡ false → (refuse why test >>= next) ≡ next tt
-pass why true next e = absurd (true≢false e)
-pass why false next e = refl
-
 pub same-bind : {A B : Type 0} (x y : Result A) (next next' : A → Result B)
     → x ≡ y → ((a : A) → y ≡ answer a → next a ≡ next' a) → (x >>= next) ≡ (y >>= next')
 same-bind x (answer a) next next' e h = ap (λ z. z >>= next) e ∙ h a refl
 same-bind x (refused why) next next' e h = ap (λ z. z >>= next) e
-
-pub go-on : {A B : Type 0} (r : Result A) (next : A → Result B) (a : A) → r ≡ answer a → (r >>= next) ≡ next a
-go-on {A} r next a e = ap (λ (x : Result A). x >>= next) e
 
 -- the same test, and the same after it
 pub same-refuse : {B : Type 0} (why : Refusal) (x y : Bool) (next next' : Unit {0} → Result B)

@@ -9,7 +9,7 @@ use Rattle.meaning.specs.Replay.{liveAs}
 use Rattle.meaning.specs.Rows.{Row, rowKind}
 use Rattle.meaning.specs.Tables.{unpackedRow, rowsFrom}
 use Rattle.meaning.specs.Views.{Lookup, node, none, findFrom}
-use Rattle.views.proofs.TableSteps.{rows-next, rows-over}
+use Rattle.meaning.proofs.TableSteps.{rows-next, rows-over}
 
 module _ (words : List ℕ) (count id i : ℕ) where
   pub find-here : i < count → liveAs (rowKind 0) id (unpackedRow (rowAt words i)) ≡ true

@@ -1,3 +1,2 @@
-pub mod TableSteps
 pub mod FindLaws
 pub mod ViewLaws

@@ -92,7 +92,8 @@ fn row_for(rows: &[u64], count: usize, node: Node, d: usize) -> Named
     Named::Row(rows::row_at(rows, node))
 }
 
-fn source_length(snapshot: &[u8], log: &[u8], logged: bool) -> usize
+// Internal: the length of the source that a row names.
+pub fn source_length(snapshot: &[u8], log: &[u8], logged: bool) -> usize
     ensures { λ r. ⌜ r ≡ length (cond logged (now (log .entry)) (now (snapshot .entry))) ⌝ }
 {
     if logged { log.len() } else { snapshot.len() }
@@ -148,8 +149,8 @@ fn vector_part(
     Shown::Part(from_log, at, n)
 }
 
-// The n bytes from `at` of the log or of the snapshot, in place.
-fn cut<'a>(snapshot: &'a [u8], log: &'a [u8], logged: bool, at: usize, n: usize) -> &'a [u8]
+// Internal: the bytes lie in their source. The n bytes from `at` of the log or of the snapshot, in place.
+pub fn cut<'a>(snapshot: &'a [u8], log: &'a [u8], logged: bool, at: usize, n: usize) -> &'a [u8]
     requires { ⌜ at + n ≤ length (cond logged (now log) (now snapshot)) ⌝ }
     ensures { λ r. ⌜ now r ≡ bytesOf (now (snapshot .entry)) (now (log .entry)) (record { fromLog = logged; at = at; count = n }) ⌝ }
     ensures { λ r. ⌜ r .ptr ≡ startOf (snapshot .entry .ptr) (log .entry .ptr) (record { fromLog = logged; at = at; count = n }) ⌝ }

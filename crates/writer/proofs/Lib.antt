@@ -1,4 +1,3 @@
-pub mod TableSteps
 pub mod PlacedLaws
 pub mod WrittenLaws
 pub mod FileLaws

@@ -21,7 +21,7 @@ use Rattle.meaning.specs.Tables.{unpackedRow, rowsFrom}
 use Rattle.meaning.specs.File.{flagOf, recordBytes, recordsBytes}
 use Rattle.meaning.specs.Writer.{Extent, full, compacted, misfit, anyMisfit, liveRows, written}
 use Rattle.writer.specs.Steps.{keeps, rowBytes, rowsBytes}
-use Rattle.writer.proofs.TableSteps.{rows-next, rows-over}
+use Rattle.meaning.proofs.TableSteps.{rows-next, rows-over}
 
 pub fits-at : (words : List ℕ) (n : ℕ) → RowFits (rowAt words n)
 unfolding rowAt

@@ -37,12 +37,6 @@ struct Totals {
     bytes: usize,
 }
 
-fn source_length(snapshot: &[u8], log: &[u8], logged: bool) -> usize
-    ensures { λ r. ⌜ r ≡ length (cond logged (now (log .entry)) (now (snapshot .entry))) ⌝ }
-{
-    if logged { log.len() } else { snapshot.len() }
-}
-
 fn deleted_with(deleted: bool, caption: usize) -> bool
     ensures { λ r. ⌜ r ≡ cond deleted (not (eqb caption 0)) false ⌝ }
 {
@@ -61,7 +55,7 @@ fn misfits(config: Config, snapshot: &[u8], log: &[u8], row: Row) -> bool
     let d = config.dimensions;
     let n = row.caption;
     let end = row.at + 4 * d + 4 + n;
-    if source_length(snapshot, log, row.from_log) < end {
+    if views::source_length(snapshot, log, row.from_log) < end {
         return true;
     }
     if deleted_with(row.deleted, n) {
@@ -166,19 +160,6 @@ fn put_bytes(out: &mut [u8], at: usize, src: &[u8])
     fields::copy(&mut out[at..], src);
 }
 
-// The n bytes from `at` of the log or of the snapshot, in place.
-fn cut<'a>(snapshot: &'a [u8], log: &'a [u8], logged: bool, at: usize, n: usize) -> &'a [u8]
-    requires { ⌜ at + n ≤ length (cond logged (now log) (now snapshot)) ⌝ }
-    ensures { λ r. ⌜ now r ≡ part (cond logged (now (log .entry)) (now (snapshot .entry))) at n ⌝ }
-{
-    if logged {
-        let end = at + n;
-        return &log[at..end];
-    }
-    let end = at + n;
-    &snapshot[at..end]
-}
-
 fn flag(deleted: bool) -> u8
     ensures { λ r. ⌜ r ≡ flagOf deleted ⌝ }
 {
@@ -209,12 +190,12 @@ fn write_record<'a>(
     let length = vector + 4 * d;
     fields::put_u64(out, at, id.0);
     fields::put_u8(out, at + 8, flag(row.deleted));
-    put_bytes(out, vector, cut(snapshot, log, logged, first, 4 * d));
+    put_bytes(out, vector, views::cut(snapshot, log, logged, first, 4 * d));
     fields::put_u32(out, length, n as u32);
     put_bytes(
         out,
         length + 4,
-        cut(snapshot, log, logged, first + 4 * d + 4, n),
+        views::cut(snapshot, log, logged, first + 4 * d + 4, n),
     );
     length + 4 + n
 }

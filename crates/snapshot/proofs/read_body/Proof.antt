@@ -14,7 +14,7 @@ use Rattle.meaning.specs.Rows.{Row}
 use Rattle.meaning.specs.Refusal.{bytesLeftOver, wrongFileCrc}
 use Rattle.snapshot.specs.Told.{meantHeader, partsTold}
 use Rattle.snapshot.proofs.BodyLaws.{records-found, bodyRecords, body-refused, body-left-over, body-wrong-crc, body-good, rows-read-facts}
-use Rattle.snapshot.proofs.Results.{answer-injective, refused-no-answer}
+use Rattle.meaning.proofs.Results.{answer-injective, refused-no-answer}
 use Rattle.snapshot.proofs.read_body.Statement.{statement}
 use Rattle.snapshot.proofs.read_body.Tie as tie
 

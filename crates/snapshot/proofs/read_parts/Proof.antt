@@ -9,7 +9,7 @@ use Rattle.meaning.specs.Refusal.{tooFewRows, answer}
 use Rattle.snapshot.specs.Told.{meantHeader, partsTold}
 use Rattle.snapshot.proofs.BodyLaws.{parts-refused, parts-too-few, parts-body}
 use Rattle.snapshot.proofs.HeaderLaws.{header-answer, header-within}
-use Rattle.snapshot.proofs.Results.{refused-no-answer}
+use Rattle.meaning.proofs.Results.{refused-no-answer}
 use Rattle.snapshot.proofs.read_parts.Statement.{statement}
 use Rattle.snapshot.proofs.read_parts.Tie as tie
 

@@ -14,7 +14,7 @@ use Rattle.snapshot.specs.Told.{recordsTold}
 use Rattle.snapshot.specs.declared.ReadRecords.the-variants as AllRecords
 use Rattle.snapshot.proofs.Reading.{record-packs, Reading, reading-none, reading-more, reading-all, records-turn, onto, with-rest, afterRecord, after-record, record-answer}
 use Rattle.snapshot.proofs.RecordLaws.{record-within}
-use Rattle.snapshot.proofs.Results.{answer-injective}
+use Rattle.meaning.proofs.Results.{answer-injective}
 use Rattle.snapshot.proofs.read_records.Statement.{statement}
 use Rattle.snapshot.proofs.read_records.Tie as tie
 

@@ -52,7 +52,7 @@ put-bytes-requires c κs =
     let a = s .args in
     let R = unpackedRow (a .row) in
     let h = s .pre .1 .1 .0 in
-    let e = ap length (c .cut .ensures) ∙ length-part (source (a .snapshot .now) (a .log .now) R) (R .at) (4 * a .d) (omega arith) in
+    let e = ap length (c .cut .ensures .0) ∙ length-part (source (a .snapshot .now) (a .log .now) R) (R .at) (4 * a .d) (omega arith) in
     omega (arith, e, s .pre .1 .1 .1, c .before .before .before .before .put-u8 .kept .0, c .before .before .before .before .before .before .before .before .before .put-u64 .kept .0)
 
 cast-put-u32 : tie.Need-cast-put-u32
@@ -82,7 +82,7 @@ put-bytes-requires-2 c κs =
     let a = s .args in
     let R = unpackedRow (a .row) in
     let h = s .pre .1 .1 .0 in
-    let e = ap length (c .cut2 .ensures) ∙ length-part (source (a .snapshot .now) (a .log .now) R) (captionStart (a .d) R) (R .caption) h in
+    let e = ap length (c .cut2 .ensures .0) ∙ length-part (source (a .snapshot .now) (a .log .now) R) (captionStart (a .d) R) (R .caption) h in
     omega (arith, e, s .pre .1 .1 .1, c .before .before .before .before .put-u32 .kept .0, c .before .before .before .before .before .before .before .before .put-bytes .kept .0, c .before .before .before .before .before .before .before .before .before .before .before .before .before .put-u8 .kept .0, c .before .before .before .before .before .before .before .before .before .before .before .before .before .before .before .before .before .before .put-u64 .kept .0)
 
 add-result : tie.Need-add-result
@@ -118,7 +118,7 @@ returns c =
     let lA = length-bytes 8 (R .id) in
     let lB = length-bytes 1 f in
     let lN = length-bytes 4 (R .caption) in
-    let lv : length v ≡ 4 * a .d = ap length (c .before .before .before .before .before .before .before .before .before .before .before .before .cut .ensures) ∙ length-part S (R .at) (4 * a .d) (omega arith) in
+    let lv : length v ≡ 4 * a .d = ap length (c .before .before .before .before .before .before .before .before .before .before .before .before .cut .ensures .0) ∙ length-part S (R .at) (4 * a .d) (omega arith) in
     let l2 = length-append A B in
     let l3 = length-append (A ++ B) v in
     let l4 = length-append ((A ++ B) ++ v) N in
@@ -129,7 +129,7 @@ returns c =
     = then-bytes 4 (R .caption) (a .at) ((A ++ B) ++ v) o three four (a .at + 9 + 4 * a .d) i q3 (omega (arith, lA, lB, l2, l3, lv)) (c .before .before .before .before .before .before .before .put-u32 .ensures) in
     let q5 : five ≡ placed (a .at) ((((A ++ B) ++ v) ++ N) ++ k) o
     = then-placed (a .at) (((A ++ B) ++ v) ++ N) k o four five (a .at + 9 + 4 * a .d + 4) i q4 (omega (arith, lA, lB, lN, l2, l3, l4, lv)) (c .before .before .put-bytes2 .ensures) in
-    let e = record-parts (a .d) (a .snapshot .now) (a .log .now) R f v k h (c .before .before .before .before .before .before .before .before .before .before .before .before .before .before .before .before .before .flag .ensures) (c .before .before .before .before .before .before .before .before .before .before .before .before .cut .ensures) (c .before .before .before .cut2 .ensures) in
+    let e = record-parts (a .d) (a .snapshot .now) (a .log .now) R f v k h (c .before .before .before .before .before .before .before .before .before .before .before .before .before .before .before .before .before .flag .ensures) (c .before .before .before .before .before .before .before .before .before .before .before .before .cut .ensures .0) (c .before .before .before .cut2 .ensures .0) in
     (omega arith, q5 ∙ ap (λ (l : List ℕ). placed (a .at) l o) e)
 
 pub write-record-spec : {M : Type 1} → statement M

@@ -11,7 +11,7 @@ use Rattle.rows.specs.Lent.{rowsLentPlain}
 use Rattle.rows.specs.Rows.{rowAt, RowFits}
 use Rattle.rows.specs.declared.Row.{Row}
 use Rattle.meaning.specs.Tables.{unpackedRow, rowsFrom, rowsIn}
-use Rattle.writer.proofs.TableSteps.{rows-next, rows-over}
+use Rattle.meaning.proofs.TableSteps.{rows-next, rows-over}
 use Rattle.meaning.specs.Replay.{size}
 use Rattle.meaning.specs.Rows.{rowKind, encoded}
 use Rattle.meaning.specs.Writer.{written}

@@ -1,7 +1,7 @@
 -- Laws of results: a test that stops, a test that is passed, and what an answer says of all that was passed on the way to it.
-use mathlib.Core.Path.{_≡_, refl, sym, ap, subst, _∙_}
+use mathlib.Core.Path.{_≡_, refl, sym, ap, subst}
 use mathlib.Core.Bool.{Bool, true, false, true≢false, false≢true}
 use Rattle.meaning.specs.Refusal.{Refusal, Result, answer, refused, _>>=_, refuse}
 
 module _ {A : Type 0} where
   abbrev pub IsAnswer : Result A → Type 0
