@@ -5,7 +5,7 @@ use mathlib.Core.Path.{_≡_, refl, sym, ap, subst, _∙_}
 use mathlib.Core.Bool.{Bool, true, false, not, cond}
 use mathlib.Core.List.{List}
 use native.Mathlib.Omega.{arith}
-use borrow.Author.Tests.{lt-ltb, le-ltb, ltb-false, eq-eqb, ne-eqb, eqb-true, eqb-false, not-false}
+use borrow.Author.Tests.{lt-ltb, le-ltb, ltb-false, eq-eqb, ne-eqb, eqb-true, not-false}
 use lib.Dec.{ltb, eqb}
 use lib.ListN.{length}
 use Rattle.config.specs.Limits.{maxFrame, maxBatchOperations}
@@ -13,8 +13,7 @@ use Rattle.config.specs.Settings.{validityOf}
 use Rattle.config.specs.declared.Config.{Config}
 use Rattle.config.specs.declared.Validity.{Validity}
 use Rattle.config.specs.declared.Validity.the-variants.{Valid, Refused}
-use Rattle.config.proofs.Laws.{number-of-refused}
-use Rattle.meaning.specs.Refusal.{Refusal, wrongDimensions, wrongM, wrongEf, wrongLength, wrongSequence, wrongBatchCount, outputTooShort, requestMalformed, number, Result, answer, refused, _>>=_, refuse}
+use Rattle.meaning.specs.Refusal.{Refusal, wrongLength, wrongSequence, wrongBatchCount, outputTooShort, requestMalformed, number, Result, answer, refused, _>>=_, refuse}
 use Rattle.meaning.specs.Item.{validated, validate}
 use Rattle.meaning.specs.Encoder.{asked, putCount, Encoded, encodeAll, Shape, single, batch, batchCount, singleCount, taggedBytes, payloadBytes, frameBytes, sealed, encode}
 use Rattle.frames.proofs.Fronts.{length-frame}
@@ -26,20 +25,9 @@ use Rattle.encoder.specs.declared.Counted.{Counted}
 use Rattle.encoder.specs.declared.Counted.the-variants as Counts
 use Rattle.encoder.specs.Told.{told, countTold, operationsTold}
 use Rattle.encoder.specs.Steps.{wordsChecked, requestChecked, headLength, roomTold}
+use Rattle.meaning.proofs.Validated.{validate-number}
 use Rattle.meaning.proofs.Results.{refused-no-answer, passed, went, pass, stop, go-on}
 use Rattle.encoder.proofs.WrittenLaws.{Count, all-written, length-written, length-asked, length-payload}
-
--- ---- the settings
-settings-number : (n : ℕ) → 6 ≤ n → n ≤ 8 → number (cond (eqb n 6) wrongDimensions (cond (eqb n 7) wrongM wrongEf)) ≡ n
-settings-number n low high = go (eqb n 6) refl (eqb n 7) refl
-  where
-    eight : (n : ℕ) → 6 ≤ n → n ≤ 8 → (n ≡ 6 → ⊥) → (n ≡ 7 → ⊥) → 8 ≡ n
-    eight n low high a b = omega arith
-
-    go : (s : Bool) → eqb n 6 ≡ s → (t : Bool) → eqb n 7 ≡ t → number (cond s wrongDimensions (cond t wrongM wrongEf)) ≡ n
-    go true e t f = sym (eqb-true n 6 e)
-    go false e true f = sym (eqb-true n 7 f)
-    go false e false f = let a = eqb-false n 6 e in let b = eqb-false n 7 f in eight n low high a b
 
 -- ---- how many words
 -- a single frame's one operation, a batch's 1..=1024
@@ -137,12 +125,11 @@ module _ (shape : Shape) (c : Config) (sequence : ℕ) (words coords captions : 
   pub encode-settings : (n : ℕ) → validityOf c ≡ Refused n → told (encode shape c sequence words coords captions room) ≡ Answers.Refused n
   unfolding encode
   encode-settings n e =
-      let bounds = number-of-refused c n e in
       ap (λ (v : Validity). told (validated v >>= λ _. refuse wrongSequence (eqb sequence 0) >>= λ _. batchCount shape (length words / 2) >>= λ _.
       refuse requestMalformed (not (eqb (length words % 2) 0)) >>= λ _. singleCount shape (length words / 2) >>= λ _.
       refuse requestMalformed (not (eqb (length coords) (c .dimensions * putCount (asked words)))) >>= λ _.
       encodeAll c coords captions (asked words) >>= λ encoded. sealed room (payloadBytes shape sequence encoded))) e
-      ∙ ap Answers.Refused (settings-number n (bounds .0) (bounds .1))
+      ∙ ap Answers.Refused (validate-number c n e)
 
   pub encode-zero : validityOf c ≡ Valid → sequence ≡ 0 → encode shape c sequence words coords captions room ≡ refused wrongSequence
   encode-zero v e = encode-valid v ∙ stop wrongSequence (eqb sequence 0) _ (eq-eqb _ _ e)

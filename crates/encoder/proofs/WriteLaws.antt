@@ -13,12 +13,13 @@ use Rattle.fields.proofs.Parts.{length-part}
 use Rattle.fields.proofs.Numbers.{length-bytes}
 use Rattle.coordinates.specs.Coordinates.{coordinateBytes}
 use Rattle.rows.specs.Rows.{operationAt, operationOf, operationFrom}
+use Rattle.rows.specs.declared.Operation.{Operation}
 use Rattle.rows.proofs.RowLaws.{operation-of-fits}
-use Rattle.meaning.specs.Encoder.{Asked, askedFrom, isPut, captionOf, captionAt, Encoded, taggedBytes}
+use Rattle.meaning.specs.Encoder.{Asked, askedFrom, isPut, captionOf, captionAt, putCount, Encoded, taggedBytes}
 use Rattle.frames.specs.Front.{Front}
 use Rattle.frames.proofs.Fronts.{front-lend}
 use Rattle.encoder.specs.Steps.{askedAt, putFields, written, writtenAll, Inside, AllInside}
-use Rattle.encoder.proofs.CheckLaws.{length-put, asked-more, asked-none}
+use Rattle.encoder.proofs.CheckLaws.{length-put, asked-more, asked-none, put-at, coordinates-on, coordinates-off}
 
 -- ---- the words of operation k, as the code reads them
 pub caption-at : (words : List ℕ) (k : ℕ) → operationAt words k .caption ≡ captionOf (askedAt words k)
@@ -113,3 +114,83 @@ module _ (d : ℕ) (words coords captions : List ℕ) (n : ℕ) where
   pub inside-on : (k : ℕ) → k < n → AllInside captions (askedFrom (n - k) k words)
       → Inside captions (askedAt words k) × AllInside captions (askedFrom (n - (k + 1)) (k + 1) words)
   inside-on k h i = subst (AllInside captions) (asked-more n k words h) i
+
+-- ---- A turn: operation k is read as r, coordinates and captions suffice from k on. What every need of the turn follows from.
+-- a put: its vector and its caption lie in what is lent, and are as long as it says
+pub record PutHere (d : ℕ) (words coords captions : List ℕ) (n from k : ℕ) (r : Operation) : Type 0 where
+  pub put : isPut (askedAt words k) ≡ true
+  pub coordinates-after : length coords ≡ from + d + d * putCount (askedFrom (n - (k + 1)) (k + 1) words)
+  pub captions-after : AllInside captions (askedFrom (n - (k + 1)) (k + 1) words)
+  pub vector-inside : from + d ≤ length coords
+  pub caption-inside : captionAt (askedAt words k) + captionOf (askedAt words k) ≤ length captions
+  pub id-is : r .id .0 ≡ getD words (2 * k) 0
+  pub caption-is : r .caption ≡ captionOf (askedAt words k)
+  pub start-is : r .at ≡ captionAt (askedAt words k)
+  pub caption-small : r .caption ≤ 32767
+  pub start-small : r .at ≤ 281474976710655
+  pub stop-inside : r .at + r .caption ≤ length captions
+  pub vector-cut : from + d - from ≡ d
+  pub vector-length : length (take (from + d - from) (drop from coords)) ≡ d
+  pub text : take (r .at + r .caption - r .at) (drop (r .at) captions) ≡ part captions (captionAt (askedAt words k)) (captionOf (askedAt words k))
+  pub text-length : length (take (r .at + r .caption - r .at) (drop (r .at) captions)) ≡ captionOf (askedAt words k)
+  pub size : length (Rest d words coords captions n from k) ≡ 13 + 4 * d + captionOf (askedAt words k) + length (Rest d words coords captions n (from + d) (k + 1))
+
+-- a delete: 9 bytes, and nothing else is taken
+pub record DeleteHere (d : ℕ) (words coords captions : List ℕ) (n from k : ℕ) (r : Operation) : Type 0 where
+  pub put : isPut (askedAt words k) ≡ false
+  pub coordinates-after : length coords ≡ from + d * putCount (askedFrom (n - (k + 1)) (k + 1) words)
+  pub captions-after : AllInside captions (askedFrom (n - (k + 1)) (k + 1) words)
+  pub id-is : r .id .0 ≡ getD words (2 * k) 0
+  pub size : length (Rest d words coords captions n from k) ≡ 9 + length (Rest d words coords captions n from (k + 1))
+
+module _ (d : ℕ) (words coords captions : List ℕ) (n from k : ℕ) (r : Operation) (h : k < n)
+    (enough : length coords ≡ from + d * putCount (askedFrom (n - k) k words)) (all : AllInside captions (askedFrom (n - k) k words)) (u : r ≡ operationAt words k) where
+  is-put : isPut (askedAt words k) ≡ r .put
+  is-put = sym (put-at words k) ∙ sym (ap (λ (x : Operation). x .put) u)
+
+  is-id : r .id .0 ≡ getD words (2 * k) 0
+  is-id = ap (λ (x : Operation). x .id .0) u ∙ id-at words k
+
+  pub put-here : r .put ≡ true → PutHere d words coords captions n from k r
+  put-here t =
+      let asks = askedAt words k in
+      let put = is-put ∙ t in
+      let room = coordinates-on d from n k (length coords) words enough h put in
+      let ins = inside-on d words coords captions n k h all in
+      let inside : captionAt asks + captionOf asks ≤ length captions = ins .0 put in
+      let cap : r .caption ≡ captionOf asks = ap (λ (x : Operation). x .caption) u ∙ caption-at words k in
+      let start : r .at ≡ captionAt asks = ap (λ (x : Operation). x .at) u ∙ start-at words k in
+      let there : from + d ≤ length coords = omega arith in
+      let q : from + d - from ≡ d = omega arith in
+      let m : r .at + r .caption - r .at ≡ captionOf asks = omega arith in
+      let text : take (r .at + r .caption - r .at) (drop (r .at) captions) ≡ part captions (captionAt asks) (captionOf asks) =
+      ap (λ (x : ℕ). take x (drop (r .at) captions)) m ∙ ap (λ (x : ℕ). part captions x (captionOf asks)) start in
+      record {
+        put = put;
+        coordinates-after = room;
+        captions-after = ins .1;
+        vector-inside = there;
+        caption-inside = inside;
+        id-is = is-id;
+        caption-is = cap;
+        start-is = start;
+        caption-small = omega (arith, caption-few asks);
+        start-small = omega (arith, start-few asks);
+        stop-inside = omega arith;
+        vector-cut = q;
+        vector-length = ap (λ (x : ℕ). length (take x (drop from coords))) q ∙ length-part coords from d there;
+        text = text;
+        text-length = ap length text ∙ length-part captions (captionAt asks) (captionOf asks) inside;
+        size = rest-put-size d words coords captions n from k h put there inside;
+      }
+
+  pub delete-here : r .put ≡ false → DeleteHere d words coords captions n from k r
+  delete-here t =
+      let put = is-put ∙ t in
+      record {
+        put = put;
+        coordinates-after = coordinates-off d from n k (length coords) words enough h put;
+        captions-after = inside-on d words coords captions n k h all .1;
+        id-is = is-id;
+        size = rest-delete-size d words coords captions n from k h put;
+      }

@@ -1,3 +1,4 @@
 pub mod Results
 pub mod Validated
 pub mod TableSteps
+pub mod RowWords

@@ -1,3 +1,4 @@
+pub mod Every
 pub mod Refusal
 pub mod Replay
 pub mod Rows

@@ -24,7 +24,8 @@ use Rattle.snapshot.specs.declared.ReadParts.the-variants as AllParts
 use Rattle.meaning.proofs.Results.{pass, stop, go-on, passed, went, answer-injective, bind-assoc, same-next}
 use Rattle.snapshot.proofs.HeaderLaws.{header-within}
 use Rattle.snapshot.proofs.Reading.{record-packs}
-use Rattle.snapshot.proofs.RowWords.{Every, Packs}
+use Rattle.meaning.specs.Every.{Every}
+use Rattle.meaning.proofs.RowWords.{Packs}
 
 -- ---- what the records' answer says of them
 pub record RecordsFound (d : ℕ) (x : Result ReadRows) (next total : ℕ) : Type 0 where

@@ -20,7 +20,7 @@ use Rattle.snapshot.specs.Steps.{partsRead, onceActive}
 use Rattle.snapshot.specs.Live.{liveNodes}
 use Rattle.snapshot.specs.declared.ReadParts.the-variants as AllParts
 use Rattle.snapshot.specs.declared.ReadSnapshot.the-variants as Snapshots
-use Rattle.snapshot.proofs.RowWords.{length-rowWords}
+use Rattle.meaning.proofs.RowWords.{length-rowWords}
 use Rattle.snapshot.proofs.ActiveLaws.{length-rowsFrom, length-liveFrom, liveCount-few, live-in-rows, table-sorted, table-rises}
 use Rattle.snapshot.proofs.BodyLaws.{snapshot-is-parts}
 

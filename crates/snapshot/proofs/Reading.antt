@@ -19,7 +19,8 @@ use Rattle.snapshot.specs.declared.ReadRecord.the-variants as Records
 use Rattle.snapshot.specs.declared.ReadRecords.the-variants as AllRecords
 use Rattle.meaning.proofs.Results.{go-on}
 use Rattle.snapshot.proofs.RecordLaws.{record-within}
-use Rattle.snapshot.proofs.RowWords.{Packs, set-row-next}
+use Rattle.meaning.proofs.RowWords.{Packs}
+use Rattle.snapshot.proofs.RowWords.{set-row-next}
 
 -- rows put before those of a result
 abbrev pub onto : List Row → Result ReadRows → Result ReadRows

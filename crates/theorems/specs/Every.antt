@@ -1,12 +1,9 @@
--- Every element of a list has a property.
+-- Laws of what every element of a list has.
 use mathlib.Core.List.{List, [], _∷_, _++_}
+pub use Rattle.meaning.specs.Every.{Every}
 
 module _ {A : Type 0} (P : A → Type 0) where
-  abbrev pub Every : List A → Type 0
-  Every [] = Unit {0}
-  Every (x ∷ xs) = P x × Every xs
-
-  pub every-append : (xs ys : List A) → Every xs → Every ys → Every (xs ++ ys)
+  pub every-append : (xs ys : List A) → Every P xs → Every P ys → Every P (xs ++ ys)
   every-append [] ys h k = k
   every-append (x ∷ xs) ys h k = (h .0, every-append xs ys (h .1) k)
 

@@ -9,13 +9,13 @@ use lib.Dec.{ltb, leb}
 use borrow.Author.Tests.{ltb-false, lt-ltb, le-ltb}
 use Rattle.config.specs.Limits.{minDimensions, maxDimensions}
 use Rattle.rows.specs.Lent.{rowsLentPlain}
-use Rattle.rows.specs.Rows.{rowAt, rowOf, RowFits}
+use Rattle.rows.specs.Rows.{rowAt}
 use Rattle.rows.specs.declared.Row as Packed
-use Rattle.rows.proofs.RowLaws.{row-of-fits}
 use Rattle.meaning.specs.Refusal.{Refusal, wrongDimensions, noSuchNode, rowDoesNotFit, number, Result, answer, refused, _>>=_, refuse}
 use Rattle.meaning.specs.Rows.{Row, source}
 use Rattle.meaning.specs.Tables.{packedRow, unpackedRow}
 use Rattle.meaning.specs.Views.{Part, nothing, view, given, numberTold}
+use Rattle.meaning.proofs.TableSteps.{fits-at}
 use Rattle.views.specs.declared.Named.the-variants as Nameds
 use Rattle.views.specs.declared.Shown.the-variants as Showns
 use Rattle.views.specs.Steps.{rowFor, partFor}
@@ -60,10 +60,6 @@ pub record NamedBy (d : ℕ) (words : List ℕ) (count n : ℕ) (row : Packed.Ro
 named-row : (x : Result Row) (row : Packed.Row) → Nameds.Row row ≡ namedTold x → x ≡ answer (unpackedRow row)
 named-row (answer r) row h = let e : row ≡ packedRow r = cc in sym (ap (λ (y : Packed.Row). answer (unpackedRow y)) e)
 named-row (refused why) row h = let z : _≡_ {A = ℕ} 0 1 = cc in absurd (omega arith)
-
-fits-at : (words : List ℕ) (n : ℕ) → RowFits (rowAt words n)
-unfolding rowAt
-fits-at words n = row-of-fits _ _
 
 pub named-by : (d : ℕ) (words : List ℕ) (count n : ℕ) (row : Packed.Row) → Nameds.Row row ≡ namedTold (rowFor d words count n) → NamedBy d words count n row
 unfolding rowFor

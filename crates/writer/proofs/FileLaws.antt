@@ -2,11 +2,11 @@
 use Prim.Native.Nat.{ℕ, _+_, _≤_, _<_}
 use native.Mathlib.Omega.{arith}
 use mathlib.Core.Path.{_≡_, refl, sym, ap, ap₂, _∙_}
-use mathlib.Core.Bool.{Bool, true, false, cond}
+use mathlib.Core.Bool.{Bool, true, false}
 use mathlib.Core.List.{List, [], _∷_, _++_, map, append-assoc}
 use lib.ListN.{length, length-append, length-map}
-use lib.Dec.{ltb, eqb}
-use borrow.Author.Tests.{lt-ltb, le-ltb, eqb-true, eqb-false}
+use lib.Dec.{ltb}
+use borrow.Author.Tests.{lt-ltb, le-ltb}
 use Rattle.crc32.specs.Crc.{crcOf}
 use Rattle.fields.specs.Fields.{bytes}
 use Rattle.fields.proofs.Numbers.{length-bytes}
@@ -15,9 +15,8 @@ use Rattle.config.specs.Settings.{metricNumber, efOf, validityOf}
 use Rattle.config.specs.declared.Config.{Config}
 use Rattle.config.specs.declared.Validity.{Validity}
 use Rattle.config.specs.declared.Validity.the-variants as Validities
-use Rattle.config.proofs.Laws.{number-of-refused}
 use Rattle.rows.specs.Lent.{rowsLentPlain}
-use Rattle.meaning.specs.Refusal.{Refusal, wrongDimensions, wrongM, wrongEf, noSuchNode, rowDoesNotFit, tooLarge, outputTooShort, number, Result, answer, refused, _>>=_, refuse}
+use Rattle.meaning.specs.Refusal.{noSuchNode, rowDoesNotFit, tooLarge, outputTooShort, Result, answer, refused, _>>=_, refuse}
 use Rattle.meaning.specs.Replay.{size}
 use Rattle.meaning.specs.Rows.{Row, Record, rowKind, seen}
 use Rattle.meaning.specs.Item.{validated}
@@ -26,6 +25,7 @@ use Rattle.meaning.specs.Snapshot.{magic}
 use Rattle.meaning.specs.File.{headerBytes, recordsBytes, bodyBytes, fileOf}
 use Rattle.meaning.specs.Writer.{Extent, anyMisfit, written, stateRows, fileLength, fileOfRows, write}
 use Rattle.meaning.specs.Calls.{outputAfter}
+use Rattle.meaning.proofs.Validated.{validate-number}
 use Rattle.writer.specs.declared.Written.the-variants as Writtens
 use Rattle.writer.specs.Steps.{rowsBytes, settingsBytes, validWrite}
 use Rattle.writer.specs.Told.{writtenTold}
@@ -160,24 +160,12 @@ module _ (extent : Extent) (c : Config) (sequence : ℕ) (words : List ℕ) (cou
   unfolding write validWrite
   write-valid e = ap (λ (v : Validity). validated v >>= λ _. stateRows c words count snapshot log >>= next) e
 
-  invalid-number : (n : ℕ) → 6 ≤ n → n ≤ 8 → number (cond (eqb n 6) wrongDimensions (cond (eqb n 7) wrongM wrongEf)) ≡ n
-  invalid-number n low high = by (eqb n 6) refl (eqb n 7) refl
-    where
-      by : (t : Bool) → eqb n 6 ≡ t → (u : Bool) → eqb n 7 ≡ u → number (cond t wrongDimensions (cond u wrongM wrongEf)) ≡ n
-      by true p u q = sym (eqb-true n 6 p)
-      by false p true q = sym (eqb-true n 7 q)
-      by false p false q =
-          let a : (n ≡ 6 → ⊥) = eqb-false n 6 p in
-          let b : (n ≡ 7 → ⊥) = eqb-false n 7 q in
-          omega arith
-
   pub write-invalid : (n : ℕ) → validityOf c ≡ Validities.Refused n
       → writtenTold (write extent c sequence words count snapshot log room) ≡ Writtens.Refused n
   unfolding write
   write-invalid n e =
-      let r = number-of-refused c n e in
       ap (λ (v : Validity). writtenTold (validated v >>= λ _. stateRows c words count snapshot log >>= next)) e
-      ∙ ap (λ (k : ℕ). Writtens.Refused k) (invalid-number n (r .0) (r .1))
+      ∙ ap (λ (k : ℕ). Writtens.Refused k) (validate-number c n e)
 
   pub write-invalid-output : (n : ℕ) → validityOf c ≡ Validities.Refused n → (out : List ℕ)
       → outputAfter out (write extent c sequence words count snapshot log room) ≡ out

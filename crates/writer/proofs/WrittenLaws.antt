@@ -12,8 +12,7 @@ use Rattle.fields.specs.Fields.{part, bytes}
 use Rattle.fields.proofs.Parts.{length-part}
 use Rattle.fields.proofs.Numbers.{length-bytes}
 use Rattle.config.specs.declared.Config.{Config}
-use Rattle.rows.specs.Rows.{rowAt, RowFits}
-use Rattle.rows.proofs.RowLaws.{row-of-fits}
+use Rattle.rows.specs.Rows.{rowAt}
 use Rattle.meaning.specs.Replay.{size}
 use Rattle.meaning.specs.Rows.{Row, rowKind, encoded, source, captionStart, seen}
 use Rattle.meaning.specs.Item.{captionLimit}
@@ -21,11 +20,7 @@ use Rattle.meaning.specs.Tables.{unpackedRow, rowsFrom}
 use Rattle.meaning.specs.File.{flagOf, recordBytes, recordsBytes}
 use Rattle.meaning.specs.Writer.{Extent, full, compacted, misfit, anyMisfit, liveRows, written}
 use Rattle.writer.specs.Steps.{keeps, rowBytes, rowsBytes}
-use Rattle.meaning.proofs.TableSteps.{rows-next, rows-over}
-
-pub fits-at : (words : List ℕ) (n : ℕ) → RowFits (rowAt words n)
-unfolding rowAt
-fits-at words n = row-of-fits _ _
+use Rattle.meaning.proofs.TableSteps.{fits-at}
 
 -- ---- a row more
 pub written-row : (extent : Extent) (r : Row) (rs : List Row) → written extent (r ∷ rs) ≡ cond (keeps extent (r .deleted)) (r ∷ written extent rs) (written extent rs)

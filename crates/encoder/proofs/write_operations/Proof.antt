@@ -1,7 +1,6 @@
 -- The operations so far stand at the front; what stands there, followed by the rest, is the whole.
 use mathlib.Core.Path.{_≡_, refl, sym, ap, _∙_}
-use Prim.Native.Nat.{ℕ, suc, _+_, _*_, _-_, _/_, _≤_, _<_}
-use mathlib.Core.Bool.{true, false}
+use Prim.Native.Nat.{ℕ, _+_, _*_, _-_, _/_, _≤_}
 use mathlib.Core.List.{List, _∷_, _++_, append-nil}
 use native.Mathlib.Nat.{le-refl}
 use denote.Ref.{now}
@@ -10,12 +9,12 @@ use lib.ListN.{length, take, drop, getD}
 use Rattle.fields.specs.Fields.{part, bytes}
 use Rattle.fields.proofs.Parts.{length-part}
 use Rattle.fields.proofs.Numbers.{length-bytes}
-use Rattle.meaning.specs.Encoder.{askedFrom, isPut, captionOf, captionAt, putCount, taggedBytes}
+use Rattle.meaning.specs.Encoder.{askedFrom, captionOf, captionAt, putCount, taggedBytes}
 use Rattle.frames.specs.Front.{Front}
 use Rattle.frames.proofs.Fronts.{front-same}
 use Rattle.encoder.specs.Steps.{askedAt, putFields, writtenAll, AllInside}
-use Rattle.encoder.proofs.CheckLaws.{length-put, put-at, coordinates-start, coordinates-on, coordinates-off}
-use Rattle.encoder.proofs.WriteLaws.{caption-at, start-at, id-at, caption-few, start-few, stand-on, Rest, rest-start, rest-end, rest-put, rest-delete, rest-put-size, rest-delete-size, inside-start, inside-on}
+use Rattle.encoder.proofs.CheckLaws.{length-put, coordinates-start}
+use Rattle.encoder.proofs.WriteLaws.{stand-on, Rest, rest-start, rest-end, rest-put, rest-delete, inside-start, put-here, delete-here}
 use native.Mathlib.Omega.{arith}
 use borrow.Author.Needs.{needs}
 use Rattle.encoder.proofs.write_operations.Statement.{statement}
@@ -60,89 +59,37 @@ add-k c = search needs
 add-end : tie.Need-add-end Inv-loop μ-loop
 add-end c =
     let a = c .before .before .before .before .before .before .before .before .before .args in
-    let words = now (a .operations) in
-    let coords = now (a .coordinates) in
-    let captions = now (a .captions) in
-    let n = length words / 2 in
     let l = c .before .before .before .before .loop in
-    let asks = askedAt words (l .k) in
-    let h : l .k < n = c .before .before .before .loop-test .taken in
-    let r = c .before .before .operation-at .result in
-    let u = c .before .before .operation-at .ensures in
-    let put : isPut asks ≡ true = sym (put-at words (l .k)) ∙ sym (ap (λ x. x .put) u) ∙ c .if1 .taken in
-    let room = coordinates-on (a .d) (l .from) n (l .k) (length coords) words (l .inv .2) h put in
-    let ins = inside-on (a .d) words coords captions n (l .k) h (l .inv .3) in
-    let inside : captionAt asks + captionOf asks ≤ length captions = ins .0 put in
-    let cap : r .caption ≡ captionOf asks = ap (λ x. x .caption) u ∙ caption-at words (l .k) in
-    let start : r .at ≡ captionAt asks = ap (λ x. x .at) u ∙ start-at words (l .k) in
-    let there : l .from + a .d ≤ length coords = omega arith in
-    let size = rest-put-size (a .d) words coords captions n (l .from) (l .k) h put there inside in
+    let words = now (a .operations) in
+    let p = put-here (a .d) words (now (a .coordinates)) (now (a .captions)) (length words / 2) (l .from) (l .k) (c .before .before .operation-at .result)
+    (c .before .before .before .loop-test .taken) (l .inv .2) (l .inv .3) (c .before .before .operation-at .ensures) (c .if1 .taken) in
     omega arith
 
 add-stop : tie.Need-add-stop Inv-loop μ-loop
 add-stop c =
     let a = c .before .before .before .before .before .before .before .before .before .before .args in
-    let words = now (a .operations) in
-    let coords = now (a .coordinates) in
-    let captions = now (a .captions) in
-    let n = length words / 2 in
     let l = c .before .before .before .before .before .loop in
-    let asks = askedAt words (l .k) in
-    let h : l .k < n = c .before .before .before .before .loop-test .taken in
-    let r = c .before .before .before .operation-at .result in
-    let u = c .before .before .before .operation-at .ensures in
-    let put : isPut asks ≡ true = sym (put-at words (l .k)) ∙ sym (ap (λ x. x .put) u) ∙ c .before .if1 .taken in
-    let room = coordinates-on (a .d) (l .from) n (l .k) (length coords) words (l .inv .2) h put in
-    let ins = inside-on (a .d) words coords captions n (l .k) h (l .inv .3) in
-    let inside : captionAt asks + captionOf asks ≤ length captions = ins .0 put in
-    let cap : r .caption ≡ captionOf asks = ap (λ x. x .caption) u ∙ caption-at words (l .k) in
-    let start : r .at ≡ captionAt asks = ap (λ x. x .at) u ∙ start-at words (l .k) in
-    let there : l .from + a .d ≤ length coords = omega arith in
-    let size = rest-put-size (a .d) words coords captions n (l .from) (l .k) h put there inside in
-    omega (arith, caption-few asks, start-few asks)
+    let words = now (a .operations) in
+    let p = put-here (a .d) words (now (a .coordinates)) (now (a .captions)) (length words / 2) (l .from) (l .k) (c .before .before .before .operation-at .result)
+    (c .before .before .before .before .loop-test .taken) (l .inv .2) (l .inv .3) (c .before .before .before .operation-at .ensures) (c .before .if1 .taken) in
+    omega arith
 
 sub-write-put : tie.Need-sub-write-put Inv-loop μ-loop
 sub-write-put c =
     let a = c .before .before .before .before .before .before .before .before .before .before .args in
-    let words = now (a .operations) in
-    let coords = now (a .coordinates) in
-    let captions = now (a .captions) in
-    let n = length words / 2 in
     let l = c .before .before .before .before .before .loop in
-    let asks = askedAt words (l .k) in
-    let h : l .k < n = c .before .before .before .before .loop-test .taken in
-    let r = c .before .before .before .operation-at .result in
-    let u = c .before .before .before .operation-at .ensures in
-    let put : isPut asks ≡ true = sym (put-at words (l .k)) ∙ sym (ap (λ x. x .put) u) ∙ c .before .if1 .taken in
-    let room = coordinates-on (a .d) (l .from) n (l .k) (length coords) words (l .inv .2) h put in
-    let ins = inside-on (a .d) words coords captions n (l .k) h (l .inv .3) in
-    let inside : captionAt asks + captionOf asks ≤ length captions = ins .0 put in
-    let cap : r .caption ≡ captionOf asks = ap (λ x. x .caption) u ∙ caption-at words (l .k) in
-    let start : r .at ≡ captionAt asks = ap (λ x. x .at) u ∙ start-at words (l .k) in
-    let there : l .from + a .d ≤ length coords = omega arith in
-    let size = rest-put-size (a .d) words coords captions n (l .from) (l .k) h put there inside in
+    let words = now (a .operations) in
+    let p = put-here (a .d) words (now (a .coordinates)) (now (a .captions)) (length words / 2) (l .from) (l .k) (c .before .before .before .operation-at .result)
+    (c .before .before .before .before .loop-test .taken) (l .inv .2) (l .inv .3) (c .before .before .before .operation-at .ensures) (c .before .if1 .taken) in
     omega (arith, l .inv .1, l .inv .4)
 
 part-write-put-start : tie.Need-part-write-put-start Inv-loop μ-loop
 part-write-put-start c =
     let a = c .before .before .before .before .before .before .before .before .before .before .args in
-    let words = now (a .operations) in
-    let coords = now (a .coordinates) in
-    let captions = now (a .captions) in
-    let n = length words / 2 in
     let l = c .before .before .before .before .before .loop in
-    let asks = askedAt words (l .k) in
-    let h : l .k < n = c .before .before .before .before .loop-test .taken in
-    let r = c .before .before .before .operation-at .result in
-    let u = c .before .before .before .operation-at .ensures in
-    let put : isPut asks ≡ true = sym (put-at words (l .k)) ∙ sym (ap (λ x. x .put) u) ∙ c .before .if1 .taken in
-    let room = coordinates-on (a .d) (l .from) n (l .k) (length coords) words (l .inv .2) h put in
-    let ins = inside-on (a .d) words coords captions n (l .k) h (l .inv .3) in
-    let inside : captionAt asks + captionOf asks ≤ length captions = ins .0 put in
-    let cap : r .caption ≡ captionOf asks = ap (λ x. x .caption) u ∙ caption-at words (l .k) in
-    let start : r .at ≡ captionAt asks = ap (λ x. x .at) u ∙ start-at words (l .k) in
-    let there : l .from + a .d ≤ length coords = omega arith in
-    let size = rest-put-size (a .d) words coords captions n (l .from) (l .k) h put there inside in
+    let words = now (a .operations) in
+    let p = put-here (a .d) words (now (a .coordinates)) (now (a .captions)) (length words / 2) (l .from) (l .k) (c .before .before .before .operation-at .result)
+    (c .before .before .before .before .loop-test .taken) (l .inv .2) (l .inv .3) (c .before .before .before .operation-at .ensures) (c .before .if1 .taken) in
     omega (arith, l .inv .1, l .inv .4)
 
 part-write-put-end : tie.Need-part-write-put-end Inv-loop μ-loop
@@ -151,23 +98,10 @@ part-write-put-end c = search needs
 mul-write-put : tie.Need-mul-write-put Inv-loop μ-loop
 mul-write-put c =
     let a = c .before .before .before .before .before .before .before .before .before .before .before .args in
-    let words = now (a .operations) in
-    let coords = now (a .coordinates) in
-    let captions = now (a .captions) in
-    let n = length words / 2 in
     let l = c .before .before .before .before .before .before .loop in
-    let asks = askedAt words (l .k) in
-    let h : l .k < n = c .before .before .before .before .before .loop-test .taken in
-    let r = c .before .before .before .before .operation-at .result in
-    let u = c .before .before .before .before .operation-at .ensures in
-    let put : isPut asks ≡ true = sym (put-at words (l .k)) ∙ sym (ap (λ x. x .put) u) ∙ c .before .before .if1 .taken in
-    let room = coordinates-on (a .d) (l .from) n (l .k) (length coords) words (l .inv .2) h put in
-    let ins = inside-on (a .d) words coords captions n (l .k) h (l .inv .3) in
-    let inside : captionAt asks + captionOf asks ≤ length captions = ins .0 put in
-    let cap : r .caption ≡ captionOf asks = ap (λ x. x .caption) u ∙ caption-at words (l .k) in
-    let start : r .at ≡ captionAt asks = ap (λ x. x .at) u ∙ start-at words (l .k) in
-    let there : l .from + a .d ≤ length coords = omega arith in
-    let size = rest-put-size (a .d) words coords captions n (l .from) (l .k) h put there inside in
+    let words = now (a .operations) in
+    let p = put-here (a .d) words (now (a .coordinates)) (now (a .captions)) (length words / 2) (l .from) (l .k) (c .before .before .before .before .operation-at .result)
+    (c .before .before .before .before .before .loop-test .taken) (l .inv .2) (l .inv .3) (c .before .before .before .before .operation-at .ensures) (c .before .before .if1 .taken) in
     omega (arith, c .before .before .before .before .before .before .before .before .before .before .before .good .1 .1 .1 .0 .1)
 
 sub-write-put-2 : tie.Need-sub-write-put-2 Inv-loop μ-loop
@@ -179,24 +113,11 @@ part-write-put-start-2 c = search needs
 part-write-put-end-2 : tie.Need-part-write-put-end-2 Inv-loop μ-loop
 part-write-put-end-2 c =
     let a = c .before .before .before .before .before .before .before .before .before .before .before .args in
-    let words = now (a .operations) in
-    let coords = now (a .coordinates) in
-    let captions = now (a .captions) in
-    let n = length words / 2 in
     let l = c .before .before .before .before .before .before .loop in
-    let asks = askedAt words (l .k) in
-    let h : l .k < n = c .before .before .before .before .before .loop-test .taken in
-    let r = c .before .before .before .before .operation-at .result in
-    let u = c .before .before .before .before .operation-at .ensures in
-    let put : isPut asks ≡ true = sym (put-at words (l .k)) ∙ sym (ap (λ x. x .put) u) ∙ c .before .before .if1 .taken in
-    let room = coordinates-on (a .d) (l .from) n (l .k) (length coords) words (l .inv .2) h put in
-    let ins = inside-on (a .d) words coords captions n (l .k) h (l .inv .3) in
-    let inside : captionAt asks + captionOf asks ≤ length captions = ins .0 put in
-    let cap : r .caption ≡ captionOf asks = ap (λ x. x .caption) u ∙ caption-at words (l .k) in
-    let start : r .at ≡ captionAt asks = ap (λ x. x .at) u ∙ start-at words (l .k) in
-    let there : l .from + a .d ≤ length coords = omega arith in
-    let size = rest-put-size (a .d) words coords captions n (l .from) (l .k) h put there inside in
-    there
+    let words = now (a .operations) in
+    let p = put-here (a .d) words (now (a .coordinates)) (now (a .captions)) (length words / 2) (l .from) (l .k) (c .before .before .before .before .operation-at .result)
+    (c .before .before .before .before .before .loop-test .taken) (l .inv .2) (l .inv .3) (c .before .before .before .before .operation-at .ensures) (c .before .before .if1 .taken) in
+    p .vector-inside
 
 sub-write-put-3 : tie.Need-sub-write-put-3 Inv-loop μ-loop
 sub-write-put-3 c = search needs
@@ -207,81 +128,29 @@ part-write-put-start-3 c = search needs
 part-write-put-end-3 : tie.Need-part-write-put-end-3 Inv-loop μ-loop
 part-write-put-end-3 c =
     let a = c .before .before .before .before .before .before .before .before .before .before .before .before .args in
-    let words = now (a .operations) in
-    let coords = now (a .coordinates) in
-    let captions = now (a .captions) in
-    let n = length words / 2 in
     let l = c .before .before .before .before .before .before .before .loop in
-    let asks = askedAt words (l .k) in
-    let h : l .k < n = c .before .before .before .before .before .before .loop-test .taken in
-    let r = c .before .before .before .before .before .operation-at .result in
-    let u = c .before .before .before .before .before .operation-at .ensures in
-    let put : isPut asks ≡ true = sym (put-at words (l .k)) ∙ sym (ap (λ x. x .put) u) ∙ c .before .before .before .if1 .taken in
-    let room = coordinates-on (a .d) (l .from) n (l .k) (length coords) words (l .inv .2) h put in
-    let ins = inside-on (a .d) words coords captions n (l .k) h (l .inv .3) in
-    let inside : captionAt asks + captionOf asks ≤ length captions = ins .0 put in
-    let cap : r .caption ≡ captionOf asks = ap (λ x. x .caption) u ∙ caption-at words (l .k) in
-    let start : r .at ≡ captionAt asks = ap (λ x. x .at) u ∙ start-at words (l .k) in
-    let there : l .from + a .d ≤ length coords = omega arith in
-    let size = rest-put-size (a .d) words coords captions n (l .from) (l .k) h put there inside in
-    let stop : r .at + r .caption ≤ length captions = omega arith in
-    stop
+    let words = now (a .operations) in
+    let p = put-here (a .d) words (now (a .coordinates)) (now (a .captions)) (length words / 2) (l .from) (l .k) (c .before .before .before .before .before .operation-at .result)
+    (c .before .before .before .before .before .before .loop-test .taken) (l .inv .2) (l .inv .3) (c .before .before .before .before .before .operation-at .ensures) (c .before .before .before .if1 .taken) in
+    p .stop-inside
 
 write-put-requires : tie.Need-write-put-requires Inv-loop μ-loop
 write-put-requires c κs =
     let a = c .before .before .before .before .before .before .before .before .before .before .before .before .before .args in
-    let words = now (a .operations) in
-    let coords = now (a .coordinates) in
-    let captions = now (a .captions) in
-    let n = length words / 2 in
     let l = c .before .before .before .before .before .before .before .before .loop in
-    let asks = askedAt words (l .k) in
-    let h : l .k < n = c .before .before .before .before .before .before .before .loop-test .taken in
-    let r = c .before .before .before .before .before .before .operation-at .result in
-    let u = c .before .before .before .before .before .before .operation-at .ensures in
-    let put : isPut asks ≡ true = sym (put-at words (l .k)) ∙ sym (ap (λ x. x .put) u) ∙ c .before .before .before .before .if1 .taken in
-    let room = coordinates-on (a .d) (l .from) n (l .k) (length coords) words (l .inv .2) h put in
-    let ins = inside-on (a .d) words coords captions n (l .k) h (l .inv .3) in
-    let inside : captionAt asks + captionOf asks ≤ length captions = ins .0 put in
-    let cap : r .caption ≡ captionOf asks = ap (λ x. x .caption) u ∙ caption-at words (l .k) in
-    let start : r .at ≡ captionAt asks = ap (λ x. x .at) u ∙ start-at words (l .k) in
-    let there : l .from + a .d ≤ length coords = omega arith in
-    let size = rest-put-size (a .d) words coords captions n (l .from) (l .k) h put there inside in
-    let q : l .from + a .d - l .from ≡ a .d = omega arith in
-    let k : r .at + r .caption - r .at ≡ captionOf asks = omega arith in
-    let text : take (r .at + r .caption - r .at) (drop (r .at) captions) ≡ part captions (captionAt asks) (captionOf asks) =
-    ap (λ (m : ℕ). take m (drop (r .at) captions)) k ∙ ap (λ (m : ℕ). part captions m (captionOf asks)) start in
-    let long = ap length text ∙ length-part captions (captionAt asks) (captionOf asks) inside in
-    let wide = ap (λ (m : ℕ). length (take m (drop (l .from) coords))) q ∙ length-part coords (l .from) (a .d) there in
+    let words = now (a .operations) in
+    let p = put-here (a .d) words (now (a .coordinates)) (now (a .captions)) (length words / 2) (l .from) (l .k) (c .before .before .before .before .before .before .operation-at .result)
+    (c .before .before .before .before .before .before .before .loop-test .taken) (l .inv .2) (l .inv .3) (c .before .before .before .before .before .before .operation-at .ensures) (c .before .before .before .before .if1 .taken) in
     let rest = mid-len (l .at) (length (l .out)) (l .out) (le-refl (length (l .out))) in
-    (omega (arith, caption-few asks), omega (arith, l .inv .1, l .inv .4))
+    (omega arith, omega (arith, l .inv .1, l .inv .4))
 
 add-at : tie.Need-add-at Inv-loop μ-loop
 add-at c =
     let a = c .before .before .before .before .before .before .before .before .before .before .before .before .before .before .before .before .args in
-    let words = now (a .operations) in
-    let coords = now (a .coordinates) in
-    let captions = now (a .captions) in
-    let n = length words / 2 in
     let l = c .before .before .before .before .before .before .before .before .before .before .before .loop in
-    let asks = askedAt words (l .k) in
-    let h : l .k < n = c .before .before .before .before .before .before .before .before .before .before .loop-test .taken in
-    let r = c .before .before .before .before .before .before .before .before .before .operation-at .result in
-    let u = c .before .before .before .before .before .before .before .before .before .operation-at .ensures in
-    let put : isPut asks ≡ true = sym (put-at words (l .k)) ∙ sym (ap (λ x. x .put) u) ∙ c .before .before .before .before .before .before .before .if1 .taken in
-    let room = coordinates-on (a .d) (l .from) n (l .k) (length coords) words (l .inv .2) h put in
-    let ins = inside-on (a .d) words coords captions n (l .k) h (l .inv .3) in
-    let inside : captionAt asks + captionOf asks ≤ length captions = ins .0 put in
-    let cap : r .caption ≡ captionOf asks = ap (λ x. x .caption) u ∙ caption-at words (l .k) in
-    let start : r .at ≡ captionAt asks = ap (λ x. x .at) u ∙ start-at words (l .k) in
-    let there : l .from + a .d ≤ length coords = omega arith in
-    let size = rest-put-size (a .d) words coords captions n (l .from) (l .k) h put there inside in
-    let q : l .from + a .d - l .from ≡ a .d = omega arith in
-    let k : r .at + r .caption - r .at ≡ captionOf asks = omega arith in
-    let text : take (r .at + r .caption - r .at) (drop (r .at) captions) ≡ part captions (captionAt asks) (captionOf asks) =
-    ap (λ (m : ℕ). take m (drop (r .at) captions)) k ∙ ap (λ (m : ℕ). part captions m (captionOf asks)) start in
-    let long = ap length text ∙ length-part captions (captionAt asks) (captionOf asks) inside in
-    let wide = ap (λ (m : ℕ). length (take m (drop (l .from) coords))) q ∙ length-part coords (l .from) (a .d) there in
+    let words = now (a .operations) in
+    let p = put-here (a .d) words (now (a .coordinates)) (now (a .captions)) (length words / 2) (l .from) (l .k) (c .before .before .before .before .before .before .before .before .before .operation-at .result)
+    (c .before .before .before .before .before .before .before .before .before .before .loop-test .taken) (l .inv .2) (l .inv .3) (c .before .before .before .before .before .before .before .before .before .operation-at .ensures) (c .before .before .before .before .before .before .before .if1 .taken) in
     omega (arith, c .before .before .write-put .ensures .0, l .inv .1, l .inv .4)
 
 loop-less : tie.Need-loop-less Inv-loop μ-loop
@@ -290,49 +159,33 @@ loop-less c = search needs
 loop-again : tie.Need-loop-again Inv-loop μ-loop
 loop-again c =
     let a = c .before .before .before .before .before .before .before .before .before .before .before .before .before .before .before .before .args in
+    let l = c .before .before .before .before .before .before .before .before .before .before .before .loop in
     let words = now (a .operations) in
+    let p = put-here (a .d) words (now (a .coordinates)) (now (a .captions)) (length words / 2) (l .from) (l .k) (c .before .before .before .before .before .before .before .before .before .operation-at .result)
+    (c .before .before .before .before .before .before .before .before .before .before .loop-test .taken) (l .inv .2) (l .inv .3) (c .before .before .before .before .before .before .before .before .before .operation-at .ensures) (c .before .before .before .before .before .before .before .if1 .taken) in
     let coords = now (a .coordinates) in
     let captions = now (a .captions) in
     let n = length words / 2 in
-    let l = c .before .before .before .before .before .before .before .before .before .before .before .loop in
     let asks = askedAt words (l .k) in
-    let h : l .k < n = c .before .before .before .before .before .before .before .before .before .before .loop-test .taken in
     let r = c .before .before .before .before .before .before .before .before .before .operation-at .result in
-    let u = c .before .before .before .before .before .before .before .before .before .operation-at .ensures in
-    let put : isPut asks ≡ true = sym (put-at words (l .k)) ∙ sym (ap (λ x. x .put) u) ∙ c .before .before .before .before .before .before .before .if1 .taken in
-    let room = coordinates-on (a .d) (l .from) n (l .k) (length coords) words (l .inv .2) h put in
-    let ins = inside-on (a .d) words coords captions n (l .k) h (l .inv .3) in
-    let inside : captionAt asks + captionOf asks ≤ length captions = ins .0 put in
-    let cap : r .caption ≡ captionOf asks = ap (λ x. x .caption) u ∙ caption-at words (l .k) in
-    let start : r .at ≡ captionAt asks = ap (λ x. x .at) u ∙ start-at words (l .k) in
-    let there : l .from + a .d ≤ length coords = omega arith in
-    let size = rest-put-size (a .d) words coords captions n (l .from) (l .k) h put there inside in
-    let q : l .from + a .d - l .from ≡ a .d = omega arith in
-    let k : r .at + r .caption - r .at ≡ captionOf asks = omega arith in
-    let text : take (r .at + r .caption - r .at) (drop (r .at) captions) ≡ part captions (captionAt asks) (captionOf asks) =
-    ap (λ (m : ℕ). take m (drop (r .at) captions)) k ∙ ap (λ (m : ℕ). part captions m (captionOf asks)) start in
-    let long = ap length text ∙ length-part captions (captionAt asks) (captionOf asks) inside in
-    let wide = ap (λ (m : ℕ). length (take m (drop (l .from) coords))) q ∙ length-part coords (l .from) (a .d) there in
     let id = getD words (2 * l .k) 0 in
-    let id-is : r .id .0 ≡ id = ap (λ x. x .id .0) u ∙ id-at words (l .k) in
     let cs = take (a .d) (drop (l .from) coords) in
     let caption = part captions (captionAt asks) (captionOf asks) in
     let B : List ℕ = 1 ∷ putFields id cs caption in
     let is : 1 ∷ putFields (r .id .0) (take (l .from + a .d - l .from) (drop (l .from) coords)) (take (r .at + r .caption - r .at) (drop (r .at) captions)) ≡ B =
-    ap (λ (i : ℕ). 1 ∷ putFields i (take (l .from + a .d - l .from) (drop (l .from) coords)) (take (r .at + r .caption - r .at) (drop (r .at) captions))) id-is
-    ∙ ap (λ (m : ℕ). 1 ∷ putFields id (take m (drop (l .from) coords)) (take (r .at + r .caption - r .at) (drop (r .at) captions))) q
-    ∙ ap (λ (t : List ℕ). 1 ∷ putFields id cs t) text in
-    let many = c .before .before .write-put .ensures .0 in
-    let B-size : length B ≡ c .before .before .write-put .result = omega (arith, length-put id (length caption) cs caption, length-part coords (l .from) (a .d) there, length-part captions (captionAt asks) (captionOf asks) inside) in
+    ap (λ (i : ℕ). 1 ∷ putFields i (take (l .from + a .d - l .from) (drop (l .from) coords)) (take (r .at + r .caption - r .at) (drop (r .at) captions))) (p .id-is)
+    ∙ ap (λ (m : ℕ). 1 ∷ putFields id (take m (drop (l .from) coords)) (take (r .at + r .caption - r .at) (drop (r .at) captions))) (p .vector-cut)
+    ∙ ap (λ (t : List ℕ). 1 ∷ putFields id cs t) (p .text) in
+    let B-size : length B ≡ c .before .before .write-put .result = omega (arith, length-put id (length caption) cs caption, length-part coords (l .from) (a .d) (p .vector-inside), length-part captions (captionAt asks) (captionOf asks) (p .caption-inside), c .before .before .write-put .ensures .0, p .vector-length, p .text-length) in
     let mid = midOf (l .at) (length (l .out) - l .at) (l .out) in
     let f = front-same mid _ B (c .before .before .write-put .last .0) is (c .before .before .write-put .ensures .1) in
     let on = stand-on (now (a .out)) B _ (Rest (a .d) words coords captions n (l .from + a .d) (l .k + 1)) _ (l .out) (c .before .before .write-put .last .0) (l .at) (c .before .before .write-put .result)
-    (omega (arith, l .inv .1, l .inv .4)) (l .inv .5) B-size f (rest-put (a .d) words coords captions n (l .from) (l .k) h put) (l .inv .6) in (
+    (omega (arith, l .inv .1, l .inv .4)) (l .inv .5) B-size f (rest-put (a .d) words coords captions n (l .from) (l .k) (c .before .before .before .before .before .before .before .before .before .before .loop-test .taken) (p .put)) (l .inv .6) in (
       search needs,
       same-len-mid (l .at) (length (l .out) - l .at) (l .out) (c .before .before .write-put .last .0) (c .before .before .write-put .kept .0) ∙ l .inv .1,
-      room,
-      ins .1,
-      omega (arith, l .inv .4),
+      p .coordinates-after,
+      p .captions-after,
+      omega (arith, l .inv .4, p .size, c .before .before .write-put .ensures .0, p .vector-length, p .text-length),
       on .0,
       on .1,
     )
@@ -340,33 +193,19 @@ loop-again c =
 sub-write-delete : tie.Need-sub-write-delete Inv-loop μ-loop
 sub-write-delete c =
     let a = c .before .before .before .before .before .before .before .before .before .args in
-    let words = now (a .operations) in
-    let coords = now (a .coordinates) in
-    let captions = now (a .captions) in
-    let n = length words / 2 in
     let l = c .before .before .before .before .loop in
-    let asks = askedAt words (l .k) in
-    let h : l .k < n = c .before .before .before .loop-test .taken in
-    let r = c .before .before .operation-at .result in
-    let u = c .before .before .operation-at .ensures in
-    let put : isPut asks ≡ false = sym (put-at words (l .k)) ∙ sym (ap (λ x. x .put) u) ∙ c .if1 .left in
-    let size = rest-delete-size (a .d) words coords captions n (l .from) (l .k) h put in
+    let words = now (a .operations) in
+    let p = delete-here (a .d) words (now (a .coordinates)) (now (a .captions)) (length words / 2) (l .from) (l .k) (c .before .before .operation-at .result)
+    (c .before .before .before .loop-test .taken) (l .inv .2) (l .inv .3) (c .before .before .operation-at .ensures) (c .if1 .left) in
     omega (arith, l .inv .1, l .inv .4)
 
 part-write-delete-start : tie.Need-part-write-delete-start Inv-loop μ-loop
 part-write-delete-start c =
     let a = c .before .before .before .before .before .before .before .before .before .args in
-    let words = now (a .operations) in
-    let coords = now (a .coordinates) in
-    let captions = now (a .captions) in
-    let n = length words / 2 in
     let l = c .before .before .before .before .loop in
-    let asks = askedAt words (l .k) in
-    let h : l .k < n = c .before .before .before .loop-test .taken in
-    let r = c .before .before .operation-at .result in
-    let u = c .before .before .operation-at .ensures in
-    let put : isPut asks ≡ false = sym (put-at words (l .k)) ∙ sym (ap (λ x. x .put) u) ∙ c .if1 .left in
-    let size = rest-delete-size (a .d) words coords captions n (l .from) (l .k) h put in
+    let words = now (a .operations) in
+    let p = delete-here (a .d) words (now (a .coordinates)) (now (a .captions)) (length words / 2) (l .from) (l .k) (c .before .before .operation-at .result)
+    (c .before .before .before .loop-test .taken) (l .inv .2) (l .inv .3) (c .before .before .operation-at .ensures) (c .if1 .left) in
     omega (arith, l .inv .1, l .inv .4)
 
 part-write-delete-end : tie.Need-part-write-delete-end Inv-loop μ-loop
@@ -375,34 +214,20 @@ part-write-delete-end c = search needs
 write-delete-requires : tie.Need-write-delete-requires Inv-loop μ-loop
 write-delete-requires c κs =
     let a = c .before .before .before .before .before .before .before .before .before .before .args in
-    let words = now (a .operations) in
-    let coords = now (a .coordinates) in
-    let captions = now (a .captions) in
-    let n = length words / 2 in
     let l = c .before .before .before .before .before .loop in
-    let asks = askedAt words (l .k) in
-    let h : l .k < n = c .before .before .before .before .loop-test .taken in
-    let r = c .before .before .before .operation-at .result in
-    let u = c .before .before .before .operation-at .ensures in
-    let put : isPut asks ≡ false = sym (put-at words (l .k)) ∙ sym (ap (λ x. x .put) u) ∙ c .before .if1 .left in
-    let size = rest-delete-size (a .d) words coords captions n (l .from) (l .k) h put in
+    let words = now (a .operations) in
+    let p = delete-here (a .d) words (now (a .coordinates)) (now (a .captions)) (length words / 2) (l .from) (l .k) (c .before .before .before .operation-at .result)
+    (c .before .before .before .before .loop-test .taken) (l .inv .2) (l .inv .3) (c .before .before .before .operation-at .ensures) (c .before .if1 .left) in
     let rest = mid-len (l .at) (length (l .out)) (l .out) (le-refl (length (l .out))) in
     omega (arith, l .inv .1, l .inv .4)
 
 add-at-2 : tie.Need-add-at-2 Inv-loop μ-loop
 add-at-2 c =
     let a = c .before .before .before .before .before .before .before .before .before .before .before .before .before .args in
-    let words = now (a .operations) in
-    let coords = now (a .coordinates) in
-    let captions = now (a .captions) in
-    let n = length words / 2 in
     let l = c .before .before .before .before .before .before .before .before .loop in
-    let asks = askedAt words (l .k) in
-    let h : l .k < n = c .before .before .before .before .before .before .before .loop-test .taken in
-    let r = c .before .before .before .before .before .before .operation-at .result in
-    let u = c .before .before .before .before .before .before .operation-at .ensures in
-    let put : isPut asks ≡ false = sym (put-at words (l .k)) ∙ sym (ap (λ x. x .put) u) ∙ c .before .before .before .before .if1 .left in
-    let size = rest-delete-size (a .d) words coords captions n (l .from) (l .k) h put in
+    let words = now (a .operations) in
+    let p = delete-here (a .d) words (now (a .coordinates)) (now (a .captions)) (length words / 2) (l .from) (l .k) (c .before .before .before .before .before .before .operation-at .result)
+    (c .before .before .before .before .before .before .before .loop-test .taken) (l .inv .2) (l .inv .3) (c .before .before .before .before .before .before .operation-at .ensures) (c .before .before .before .before .if1 .left) in
     omega (arith, c .before .before .write-delete .ensures .0, l .inv .1, l .inv .4)
 
 loop-less-2 : tie.Need-loop-less-2 Inv-loop μ-loop
@@ -411,31 +236,26 @@ loop-less-2 c = search needs
 loop-again-2 : tie.Need-loop-again-2 Inv-loop μ-loop
 loop-again-2 c =
     let a = c .before .before .before .before .before .before .before .before .before .before .before .before .before .args in
+    let l = c .before .before .before .before .before .before .before .before .loop in
     let words = now (a .operations) in
+    let p = delete-here (a .d) words (now (a .coordinates)) (now (a .captions)) (length words / 2) (l .from) (l .k) (c .before .before .before .before .before .before .operation-at .result)
+    (c .before .before .before .before .before .before .before .loop-test .taken) (l .inv .2) (l .inv .3) (c .before .before .before .before .before .before .operation-at .ensures) (c .before .before .before .before .if1 .left) in
     let coords = now (a .coordinates) in
     let captions = now (a .captions) in
     let n = length words / 2 in
-    let l = c .before .before .before .before .before .before .before .before .loop in
-    let asks = askedAt words (l .k) in
-    let h : l .k < n = c .before .before .before .before .before .before .before .loop-test .taken in
     let r = c .before .before .before .before .before .before .operation-at .result in
-    let u = c .before .before .before .before .before .before .operation-at .ensures in
-    let put : isPut asks ≡ false = sym (put-at words (l .k)) ∙ sym (ap (λ x. x .put) u) ∙ c .before .before .before .before .if1 .left in
-    let size = rest-delete-size (a .d) words coords captions n (l .from) (l .k) h put in
     let id = getD words (2 * l .k) 0 in
-    let id-is : r .id .0 ≡ id = ap (λ x. x .id .0) u ∙ id-at words (l .k) in
     let B : List ℕ = 2 ∷ bytes 8 id in
     let mid = midOf (l .at) (length (l .out) - l .at) (l .out) in
-    let nine = c .before .before .write-delete .ensures .0 in
-    let B-size : length B ≡ c .before .before .write-delete .result = omega (arith, length-bytes 8 id) in
-    let f = front-same mid (2 ∷ bytes 8 (r .id .0)) B (c .before .before .write-delete .last .0) (ap (λ (i : ℕ). 2 ∷ bytes 8 i) id-is) (c .before .before .write-delete .ensures .1) in
+    let B-size : length B ≡ c .before .before .write-delete .result = omega (arith, length-bytes 8 id, c .before .before .write-delete .ensures .0) in
+    let f = front-same mid (2 ∷ bytes 8 (r .id .0)) B (c .before .before .write-delete .last .0) (ap (λ (i : ℕ). 2 ∷ bytes 8 i) (p .id-is)) (c .before .before .write-delete .ensures .1) in
     let on = stand-on (now (a .out)) B _ (Rest (a .d) words coords captions n (l .from) (l .k + 1)) _ (l .out) (c .before .before .write-delete .last .0) (l .at) (c .before .before .write-delete .result)
-    (omega (arith, l .inv .1, l .inv .4)) (l .inv .5) B-size f (rest-delete (a .d) words coords captions n (l .from) (l .k) h put) (l .inv .6) in (
+    (omega (arith, l .inv .1, l .inv .4)) (l .inv .5) B-size f (rest-delete (a .d) words coords captions n (l .from) (l .k) (c .before .before .before .before .before .before .before .loop-test .taken) (p .put)) (l .inv .6) in (
       search needs,
       same-len-mid (l .at) (length (l .out) - l .at) (l .out) (c .before .before .write-delete .last .0) (c .before .before .write-delete .kept .0) ∙ l .inv .1,
-      coordinates-off (a .d) (l .from) n (l .k) (length coords) words (l .inv .2) h put,
-      inside-on (a .d) words coords captions n (l .k) h (l .inv .3) .1,
-      omega (arith, l .inv .4),
+      p .coordinates-after,
+      p .captions-after,
+      omega (arith, l .inv .4, p .size, c .before .before .write-delete .ensures .0),
       on .0,
       on .1,
     )

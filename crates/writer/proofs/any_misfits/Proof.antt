@@ -10,9 +10,9 @@ use Rattle.rows.specs.Lent.{rowsLentPlain}
 use Rattle.rows.specs.Rows.{rowAt, RowFits}
 use Rattle.rows.specs.declared.Row.{Row}
 use Rattle.meaning.specs.Tables.{unpackedRow, rowsFrom, rowsIn}
-use Rattle.meaning.proofs.TableSteps.{rows-next, rows-over}
+use Rattle.meaning.proofs.TableSteps.{fits-at, rows-next, rows-over}
 use Rattle.meaning.specs.Writer.{misfit, anyMisfit}
-use Rattle.writer.proofs.WrittenLaws.{fits-at, any-here, any-on, any-none}
+use Rattle.writer.proofs.WrittenLaws.{any-here, any-on, any-none}
 use Rattle.writer.proofs.any_misfits.Statement.{statement}
 use Rattle.writer.proofs.any_misfits.Tie as tie
 

@@ -10,7 +10,7 @@ use Rattle.rows.specs.Lent.{rowsLentPlain}
 use Rattle.rows.specs.Rows.{rowAt, RowFits}
 use Rattle.rows.specs.declared.Row.{Row}
 use Rattle.meaning.specs.Tables.{unpackedRow, rowsFrom, rowsIn}
-use Rattle.meaning.proofs.TableSteps.{rows-next, rows-over}
+use Rattle.meaning.proofs.TableSteps.{fits-at, rows-next, rows-over}
 use lib.ListN.{length-append}
 use mathlib.Core.List.{List, _∷_, _++_}
 use Rattle.meaning.specs.Rows.{source, captionStart}
@@ -18,7 +18,7 @@ use Rattle.meaning.specs.Writer.{anyMisfit}
 use Rattle.writer.specs.Steps.{placed, rowBytes, rowsBytes}
 use Rattle.writer.specs.Told.{extentOf}
 use Rattle.writer.proofs.PlacedLaws.{placed-behind, placed-none}
-use Rattle.writer.proofs.WrittenLaws.{fits-at, first-fits, rest-fits, fit-inside, bytes-row, bytes-none}
+use Rattle.writer.proofs.WrittenLaws.{first-fits, rest-fits, fit-inside, bytes-row, bytes-none}
 use Rattle.writer.proofs.write_records.Statement.{statement}
 use Rattle.writer.proofs.write_records.Tie as tie
 

@@ -11,13 +11,13 @@ use Rattle.rows.specs.Lent.{rowsLentPlain}
 use Rattle.rows.specs.Rows.{rowAt, RowFits}
 use Rattle.rows.specs.declared.Row.{Row}
 use Rattle.meaning.specs.Tables.{unpackedRow, rowsFrom, rowsIn}
-use Rattle.meaning.proofs.TableSteps.{rows-next, rows-over}
+use Rattle.meaning.proofs.TableSteps.{fits-at, rows-next, rows-over}
 use Rattle.meaning.specs.Replay.{size}
 use Rattle.meaning.specs.Rows.{rowKind, encoded}
 use Rattle.meaning.specs.Writer.{written}
 use Rattle.writer.specs.Steps.{keeps, TotalsOf}
 use Rattle.writer.specs.Told.{extentOf}
-use Rattle.writer.proofs.WrittenLaws.{fits-at, length-row, size-row, written-none, added-size, at-most-one}
+use Rattle.writer.proofs.WrittenLaws.{length-row, size-row, written-none, added-size, at-most-one}
 use Rattle.writer.proofs.written_totals.Statement.{statement}
 use Rattle.writer.proofs.written_totals.Tie as tie
 
