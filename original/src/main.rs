@@ -3,7 +3,7 @@ use model::request::{split_stream, with_length};
 use original::{
     answerer::{Answerer, Program},
     beside::Beside,
-    compare::{Difference, compare, compare_bodies},
+    compare::{Difference, Tally, compare},
     fixed::fixed,
     generate::{self, Kind, exhaustive},
     histogram::Histogram,
@@ -12,6 +12,7 @@ use original::{
 use std::{
     env, fs,
     io::{self, BufWriter, Read, Write},
+    iter,
     path::Path,
     process::exit,
     time::Instant,
@@ -25,34 +26,46 @@ original exhaustive [answer]               the short inputs: requests, or model 
 original fixed FOLDER                      writes requests.bin and answers.txt of the fixed list
 original compare SEED N [KIND] -- COMMAND  a program beside both: stops at the first difference
 original native SEED N [KIND]              the same with the native host linked in
+original native-exhaustive                 the native host on the short inputs
+original native-stream FILE                the native host on the requests of a file
+original native-short SEED N [KIND]        native, and every shorter memory for the text must be refused
 original large [NAME]                      lists the named cases, or runs one (`all`: all) beside the original
 original native-large [NAME]               the same with the native host
 KIND is mixed (default), pairs, caches, encoders, tables or small.
+An answer `not yet`, of a call without code, is counted apart and not compared.
 A difference is written to target/difference: request.bin, wanted.txt, given.txt.";
 
 fn main() {
     let arguments: Vec<String> = env::args().skip(1).collect();
     let words: Vec<&str> = arguments.iter().map(String::as_str).collect();
     let good = match words[..] {
-        ["generate", seed, count, ref rest @ ..] => write_generated(number(seed), number(count), kind(rest)),
+        ["generate", seed, count, ref rest @ ..] => write_requests(generated(seed, count, rest)),
         ["answer"] => answer(),
-        ["histogram", seed, count, ref rest @ ..] => histogram(number(seed), number(count), kind(rest)),
+        ["histogram", seed, count, ref rest @ ..] => beside_all(generated(seed, count, rest)),
         ["exhaustive"] => write_requests(exhaustive::requests()),
         ["exhaustive", "answer"] => beside_all(exhaustive::requests()),
         ["fixed", folder] => write_fixed(Path::new(folder)),
         ["compare", seed, count, "--", ref command @ ..] if !command.is_empty() => {
-            compare_program(number(seed), number(count), Kind::Mixed, command)
+            compare_all(generated(seed, count, &[]), &mut program(command))
         }
         ["compare", seed, count, name, "--", ref command @ ..] if !command.is_empty() => {
-            compare_program(number(seed), number(count), kind(&[name]), command)
+            compare_all(generated(seed, count, &[name]), &mut program(command))
         }
         ["native", seed, count, ref rest @ ..] => {
-            report(compare(number(seed), number(count), kind(rest), &mut *native_host()))
+            compare_all(generated(seed, count, rest), &mut *native_host(false))
+        }
+        ["native-exhaustive"] => compare_all(exhaustive::requests(), &mut *native_host(false)),
+        ["native-stream", file] => {
+            let stream = fs::read(file).expect("a file of requests");
+            compare_all(whole_requests(&stream).into_iter().map(<[u8]>::to_vec), &mut *native_host(false))
+        }
+        ["native-short", seed, count, ref rest @ ..] => {
+            compare_all(generated(seed, count, rest), &mut *native_host(true))
         }
         ["large"] => list_large(),
         ["large", name] => run_large(name, None),
-        ["native-large"] => run_large("all", Some(native_host())),
-        ["native-large", name] => run_large(name, Some(native_host())),
+        ["native-large"] => run_large("all", Some(native_host(false))),
+        ["native-large", name] => run_large(name, Some(native_host(false))),
         _ => usage(),
     };
     exit(if good { 0 } else { 1 });
@@ -75,15 +88,16 @@ fn kind(rest: &[&str]) -> Kind {
     }
 }
 
-fn native_host() -> Box<dyn Answerer> {
-    native::host().unwrap_or_else(|| {
+fn native_host(short: bool) -> Box<dyn Answerer> {
+    native::host(short).unwrap_or_else(|| {
         eprintln!("no native host: build with LAMBSPOOL_ARCHIVE naming the archive that has answer_request");
         exit(2);
     })
 }
 
-fn write_generated(seed: u64, count: u64, kind: Kind) -> bool {
-    write_requests((0..count).map(|index| generate::request(seed, index, kind)))
+fn generated(seed: &str, count: &str, rest: &[&str]) -> impl Iterator<Item = Vec<u8>> + use<> {
+    let (seed, kind) = (number(seed), kind(rest));
+    (0..number(count)).map(move |index| generate::request(seed, index, kind))
 }
 
 fn write_requests(bodies: impl Iterator<Item = Vec<u8>>) -> bool {
@@ -97,19 +111,22 @@ fn write_requests(bodies: impl Iterator<Item = Vec<u8>>) -> bool {
 fn answer() -> bool {
     let mut stream = Vec::new();
     io::stdin().lock().read_to_end(&mut stream).expect("standard input");
-    let bodies = split_stream(&stream).unwrap_or_else(|at| {
-        eprintln!("the request at byte {at} is cut short");
-        exit(2);
-    });
     let mut output = BufWriter::new(io::stdout().lock());
     let mut beside = Beside::new();
     let mut good = true;
-    for (index, body) in bodies.into_iter().enumerate() {
+    for (index, body) in whole_requests(&stream).into_iter().enumerate() {
         let answer = beside.answer(body);
         output.write_all(answer.reply.text().as_bytes()).expect("standard output");
         good &= no_findings(index as u64, body, &answer.findings);
     }
     output.flush().is_ok() && good
+}
+
+fn whole_requests(stream: &[u8]) -> Vec<&[u8]> {
+    split_stream(stream).unwrap_or_else(|at| {
+        eprintln!("the request at byte {at} is cut short");
+        exit(2);
+    })
 }
 
 /// Loud: a finding is a difference between document 01 as the model reads it and the original.
@@ -119,10 +136,6 @@ fn no_findings(index: u64, body: &[u8], findings: &[String]) -> bool {
         eprintln!("FINDING in case {index}: {finding}\n  request ({} bytes) {hex}", body.len());
     }
     findings.is_empty()
-}
-
-fn histogram(seed: u64, count: u64, kind: Kind) -> bool {
-    beside_all((0..count).map(|index| generate::request(seed, index, kind)))
 }
 
 fn beside_all(bodies: impl Iterator<Item = Vec<u8>>) -> bool {
@@ -158,15 +171,21 @@ fn write_fixed(folder: &Path) -> bool {
     true
 }
 
-fn compare_program(seed: u64, count: u64, kind: Kind, command: &[&str]) -> bool {
-    let command = command.iter().map(|word| word.to_string()).collect();
-    report(compare(seed, count, kind, &mut Program { command }))
+fn program(command: &[&str]) -> Program {
+    Program { command: command.iter().map(|word| word.to_string()).collect() }
 }
 
-fn report(difference: Option<Difference>) -> bool {
-    let Some(difference) = difference else {
-        println!("no difference");
-        return true;
+fn compare_all(bodies: impl Iterator<Item = Vec<u8>>, other: &mut dyn Answerer) -> bool {
+    report(compare(bodies, other).map_err(|difference| difference.shrunk(other)))
+}
+
+fn report(compared: Result<Tally, Difference>) -> bool {
+    let difference = match compared {
+        Ok(tally) => {
+            print!("{}", tally.text());
+            return true;
+        }
+        Err(difference) => difference,
     };
     let folder = Path::new("target/difference");
     difference.write_to(folder).expect("target/difference");
@@ -176,6 +195,9 @@ fn report(difference: Option<Difference>) -> bool {
         difference.body.len(),
         folder.display()
     );
+    for finding in &difference.findings {
+        println!("model and original: {finding}");
+    }
     println!("wanted\n{}given\n{}", difference.ours, String::from_utf8_lossy(&difference.theirs));
     false
 }
@@ -198,7 +220,7 @@ fn run_large(name: &str, mut host: Option<Box<dyn Answerer>>) -> bool {
         let begin = Instant::now();
         let body = (case.build)();
         if let Some(host) = &mut host {
-            good &= report(compare_bodies(&[body], &mut **host));
+            good &= report(compare(iter::once(body), &mut **host));
             println!("{}: {:.1} s", case.name, begin.elapsed().as_secs_f64());
             continue;
         }

@@ -3,14 +3,24 @@
 use crate::answerer::Answerer;
 
 #[cfg(not(native_host))]
-pub fn host() -> Option<Box<dyn Answerer>> {
+pub fn host(_short: bool) -> Option<Box<dyn Answerer>> {
     None
 }
 
+/// `short`: every shorter memory for the text is tried as well, and must be refused.
 #[cfg(native_host)]
-pub fn host() -> Option<Box<dyn Answerer>> {
+pub fn host(short: bool) -> Option<Box<dyn Answerer>> {
     let mut lent = linked::Lent::new();
-    Some(Box::new(crate::answerer::InProcess(move |body: &[u8]| lent.answer(body))))
+    Some(Box::new(crate::answerer::InProcess(move |body: &[u8]| {
+        let whole = lent.answer(body, usize::MAX);
+        let shorter = if short { 0..whole.len() } else { 0..0 };
+        for room in shorter {
+            if !lent.answer(body, room).is_empty() {
+                return format!("not refused: {room} bytes for the text\n.\n").into_bytes();
+            }
+        }
+        if short { lent.answer(body, whole.len()) } else { whole }
+    })))
 }
 
 #[cfg(native_host)]
@@ -48,9 +58,10 @@ mod linked {
             }
         }
 
-        pub fn answer(&mut self, body: &[u8]) -> Vec<u8> {
-            // SAFETY: each pointer comes with the length of the memory behind it, and the host
-            // keeps none of them.
+        /// The answer into the first `room` bytes of the memory for the text.
+        pub fn answer(&mut self, body: &[u8], room: usize) -> Vec<u8> {
+            // SAFETY: each pointer comes with a length that lies in the memory behind it, and the
+            // host keeps none of them.
             let length = unsafe {
                 answer_request(
                     body.as_ptr(),
@@ -62,7 +73,7 @@ mod linked {
                     self.output.as_mut_ptr(),
                     self.output.len(),
                     self.answer.as_mut_ptr(),
-                    self.answer.len(),
+                    room.min(self.answer.len()),
                 )
             };
             self.answer[..length].to_vec()

@@ -2,7 +2,7 @@
 mod layout;
 
 use crate::{
-    answerer::Answerer,
+    answerer::{Answerer, NOT_YET},
     beside::Beside,
     generate::plan::{repair_crc, repair_log},
 };
@@ -19,8 +19,14 @@ pub fn shrink(body: Vec<u8>, beside: &mut Beside, other: &mut dyn Answerer) -> V
     smallest
 }
 
+/// From the original, or the original from the model; a call without code is no difference.
 pub fn differs(body: &[u8], beside: &mut Beside, answer: Option<&Vec<u8>>) -> bool {
-    answer.map(Vec::as_slice) != Some(beside.answer(body).reply.text().as_bytes())
+    let answer = answer.map(Vec::as_slice);
+    if answer == Some(NOT_YET) {
+        return false;
+    }
+    let wanted = beside.answer(body);
+    !wanted.findings.is_empty() || answer != Some(wanted.reply.text().as_bytes())
 }
 
 fn first_different(candidates: &[Vec<u8>], beside: &mut Beside, other: &mut dyn Answerer) -> Option<Vec<u8>> {
