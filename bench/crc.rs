@@ -1,13 +1,16 @@
-// Times the proved CRC beside a byte-table loop as the original has it, and beside zlib, in one run.
+// Times the proved CRC beside a byte-table loop as the original has it, zlib, and libdeflate, which uses the machine's own
+// instructions for polynomials, in one run.
 // Each figure is the best of several rounds, in processor time, so that a busy machine spoils it less.
 use std::hint::black_box;
 
 extern "C" {
     fn measure_crc(bytes: *const u8, len: usize) -> u32;
+    fn measure_crc_parts(bytes: *const u8, len: usize, size: usize) -> u32;
     fn measure_crc_runs(bytes: *const u8, len: usize, size: usize) -> u32;
     fn clock_gettime(clock: i32, time: *mut [i64; 2]) -> i32;
     #[link_name = "crc32"]
     fn zlib_crc32(crc: u64, bytes: *const u8, len: u32) -> u64;
+    fn libdeflate_crc32(crc: u32, bytes: *const u8, len: usize) -> u32;
 }
 
 const BYTE_TABLE: [u32; 256] = {
@@ -43,6 +46,14 @@ fn zlib(s: &[u8]) -> u32 {
     unsafe { zlib_crc32(0, s.as_ptr(), s.len() as u32) as u32 }
 }
 
+fn deflate(s: &[u8]) -> u32 {
+    unsafe { libdeflate_crc32(0, s.as_ptr(), s.len()) }
+}
+
+fn in_parts(s: &[u8]) -> u32 {
+    unsafe { measure_crc_parts(s.as_ptr(), s.len(), 65536) }
+}
+
 // nanoseconds of processor time that this thread has had (clock 3 of Linux)
 fn now() -> f64 {
     let mut t = [0i64; 2];
@@ -69,22 +80,38 @@ fn each_zlib(s: &[u8], size: usize) -> u32 {
     each(zlib, s, size)
 }
 
+fn each_deflate(s: &[u8], size: usize) -> u32 {
+    each(deflate, s, size)
+}
+
+fn each_in_parts(s: &[u8], size: usize) -> u32 {
+    each(in_parts, s, size)
+}
+
 // tables made once for all runs
 fn each_lent(s: &[u8], size: usize) -> u32 {
     unsafe { measure_crc_runs(s.as_ptr(), s.len(), size) }
 }
 
-const WAYS: [(&str, Way); 4] = [
+const WAYS: [(&str, Way); 6] = [
     ("original loop", each_original),
     ("zlib", each_zlib),
+    ("libdeflate", each_deflate),
     ("crc32", each_proved),
     ("crc32_with, lent", each_lent),
+    ("parts of 64 KiB", each_in_parts),
 ];
+const ORIGINAL: usize = 0;
+const ZLIB: usize = 1;
+const CRC32: usize = 3;
+const LENT: usize = 4;
+
+type Times = [f64; WAYS.len()];
 
 // nanoseconds for one run, by each way
-fn best(s: &[u8], size: usize, rounds: usize) -> [f64; 4] {
+fn best(s: &[u8], size: usize, rounds: usize) -> Times {
     let runs = (s.len() / size) as f64;
-    let mut least = [f64::MAX; 4];
+    let mut least = [f64::MAX; WAYS.len()];
     for _ in 0..rounds {
         for (k, (_, way)) in WAYS.iter().enumerate() {
             let t = now();
@@ -93,6 +120,26 @@ fn best(s: &[u8], size: usize, rounds: usize) -> [f64; 4] {
         }
     }
     least
+}
+
+fn table(sizes: &[usize], times: &[Times], cell: impl Fn(usize, &Times, usize) -> String) {
+    print!("{:17}", "");
+    for size in sizes {
+        let name = match size {
+            s if s % (1 << 20) == 0 => format!("{} MiB", s >> 20),
+            s if s % 1024 == 0 => format!("{} KiB", s >> 10),
+            s => format!("{s} B"),
+        };
+        print!("{name:>14}");
+    }
+    println!();
+    for (k, (name, _)) in WAYS.iter().enumerate() {
+        print!("{name:17}");
+        for (f, &size) in times.iter().zip(sizes) {
+            print!("{:>14}", cell(k, f, size));
+        }
+        println!();
+    }
 }
 
 fn main() {
@@ -104,29 +151,23 @@ fn main() {
             (x >> 56) as u8
         })
         .collect();
-    for n in (0..600).chain([1023, 1024, 1025, 4095, 4096, 4097, 1 << 20]) {
+    for n in (0..600).chain([1023, 1024, 1025, 4095, 4096, 4097]).chain(4600..4616).chain([10591, 10592, 10593, 12995, 12996, 12997, 65535, 65536, 65537, 70145, 1 << 20]) {
         let s = &bytes[n..2 * n];
-        assert!(proved(s) == original(s) && zlib(s) == original(s), "length {n}");
+        assert!(proved(s) == original(s) && zlib(s) == original(s) && deflate(s) == original(s) && in_parts(s) == original(s), "length {n}");
         if n > 0 {
             assert!(each_lent(s, n) == original(s), "lent, length {n}");
         }
     }
     println!("all ways agree; nanoseconds a call, and times the original's");
-    let sizes = [4, 16, 64, 256, 1024];
-    print!("{:17}", "");
-    for size in sizes {
-        print!("{:>15}", format!("{size} B"));
-    }
-    println!("{:>22}", "64 MiB, MB/s, speed");
-    let small: Vec<[f64; 4]> = sizes.iter().map(|&size| best(&bytes[..1 << 20], size, 25)).collect();
-    let whole = best(&bytes, big, 9);
-    for (k, (name, _)) in WAYS.iter().enumerate() {
-        print!("{name:17}");
-        for f in &small {
-            print!("{:>9.1} {:5.2}", f[k], f[k] / f[0]);
-        }
-        println!("{:>15.0} {:6.2}", big as f64 / whole[k] * 1e3, whole[0] / whole[k]);
-    }
-    println!("64 MiB: crc32 has {:.2} times the original's speed (wanted 6), {:.2} of zlib's (wanted 0.9)", whole[0] / whole[2], whole[1] / whole[2]);
-    println!("4 B: crc32 takes {:.2} times the original's time, lent {:.2} (wanted: at most 3)", small[0][2] / small[0][0], small[0][3] / small[0][0]);
+    let short = [4, 16, 64, 125, 256, 512, 1024];
+    let times: Vec<Times> = short.iter().map(|&size| best(&bytes[..1 << 20], size, 25)).collect();
+    table(&short, &times, |k, f, _| format!("{:.1} {:5.2}", f[k], f[k] / f[ORIGINAL]));
+    println!("MB/s, and times zlib's speed");
+    let long = [2048, 4096, 5120, 8192, 16384, 65536, 1 << 20, big];
+    let speeds: Vec<Times> = long.iter().map(|&size| if size < big { best(&bytes[..1 << 20], size, 25) } else { best(&bytes, size, 15) }).collect();
+    table(&long, &speeds, |k, f, size| format!("{:.0} {:5.2}", size as f64 / f[k] * 1e3, f[ZLIB] / f[k]));
+    let whole = speeds[7];
+    println!("64 MiB: crc32 has {:.2} times the original's speed (wanted 6), {:.2} times zlib's (wanted 4)", whole[ORIGINAL] / whole[CRC32], whole[ZLIB] / whole[CRC32]);
+    println!("64 KiB: {:.2} times zlib's (wanted 2.5); 8 KiB: {:.2} times (wanted 1.1)", speeds[5][ZLIB] / speeds[5][CRC32], speeds[3][ZLIB] / speeds[3][CRC32]);
+    println!("4 B: crc32 takes {:.2} times the original's time, lent {:.2} (wanted: at most 3)", times[0][CRC32] / times[0][ORIGINAL], times[0][LENT] / times[0][ORIGINAL]);
 }

@@ -267,8 +267,13 @@ fn compare(d: usize, random: bool, rounds: usize) {
             &mut || time(|| read_proved(black_box(&bytes), &mut lent)),
         ],
     );
-    tell("reading", reading, if random { 2.0 } else { 3.0 });
-    tell("writing", writing, 1.0);
+    let (read, write) = match (d, random) {
+        (768, _) => (25.0, 25.0),
+        (_, false) => (12.0, 12.0),
+        (_, true) => (2.0, 1.0),
+    };
+    tell("reading", reading, read);
+    tell("writing", writing, write);
 }
 
 fn tell_memory(d: usize, random: bool) {

@@ -3,7 +3,7 @@
  * Every call takes any numbers and any bytes. Of a pointer it asks what C asks of memory that is handed over: `bytes` can be read for
  * `length` bytes, `out` can be written for `room` bytes, and no one else changes them until the call is back. With length or room 0
  * the pointer may be null; nothing is read or written through it. No call keeps a pointer, allocates, or has state.
- * The CRC of 512 bytes or more makes its tables on the stack: leave 20 KiB. */
+ * The CRC makes what it needs on the stack: leave 20 KiB for 384 bytes or more, and 36 KiB for 4096 or more. */
 #ifndef LAMBSPOOL_H
 #define LAMBSPOOL_H
 

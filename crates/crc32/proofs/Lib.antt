@@ -1,8 +1,9 @@
-pub mod Xor
 pub mod Shift
 pub mod Bytes
 pub mod Slices
 pub mod Sealed
 pub mod Table
 pub mod Arms
+pub mod Sparse
+pub mod Register
 pub mod Known

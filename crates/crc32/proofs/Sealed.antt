@@ -12,7 +12,7 @@ use lib.ListN.{length, take, drop}
 use lib.Seq.{take-append-seam, drop-append-seam}
 use Rattle.crc32.specs.Crc.{allOnes, bitsIn, bytesIn, crcOf}
 use Rattle.crc32.specs.Steps.{shift, shifts, turns}
-use Rattle.crc32.proofs.Xor.{xor-assoc, xor-twice}
+use Rattle.elimination.proofs.Xor.{xor-assoc, xor-twice}
 use Rattle.crc32.proofs.Shift.{shifts-xor, shifts-high}
 use Rattle.crc32.proofs.Bytes.{bits-in, bytesIn-append, crc-lt}
 

@@ -8,7 +8,7 @@ use lib.Bits.{differ, bitXor, xor-comm, xor-self, xor-zero-r, xor-lt, xor-shifte
 use lib.Pow.{pow-pos, split}
 use Rattle.crc32.specs.Crc.{polynomial}
 use Rattle.crc32.specs.Steps.{shift, shifts, turns}
-use Rattle.crc32.proofs.Xor.{bit-lt, xor-half, xor-odd, xor4}
+use Rattle.elimination.proofs.Xor.{bit-lt, xor-half, xor-odd, xor4}
 
 -- a single bit times a number is linear over the bit
 pub bit-times : (x y p : ℕ) → x < 2 → y < 2 → differ x y * p ≡ bitXor (x * p) (y * p)

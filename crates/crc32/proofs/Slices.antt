@@ -6,9 +6,10 @@ use Prim.Native.Nat.{ℕ, suc, _+_, _-_, _*_, _/_, _%_, _≤_, _<_}
 use native.Mathlib.Nat.{div-eq-of-lt, add-comm}
 use native.Mathlib.Numerals.{add-one}
 use native.Mathlib.Omega.{arith}
-use lib.Bits.{bitXor, xor-shr, xor-zero-r}
+use lib.Bits.{bitXor, xor-comm, xor-shr, xor-zero-r}
 use lib.ListN.{length, getD, take, drop, take-append-drop, length-drop, drop-of-length-le}
 use lib.Seq.{drop-cons, drop-drop, take-add, length-take-le}
+use Rattle.elimination.proofs.Xor.{xor-reversed}
 use Rattle.crc32.specs.Crc.{bitsIn, bytesIn}
 use Rattle.crc32.specs.Steps.{shifts, turns}
 use Rattle.crc32.proofs.Shift.{shifts-split, shifts-add, turns-xor, turns-add, turns-zero, turns-split, rounds-halves}
@@ -103,16 +104,28 @@ first-part c n m i j s e h =
     ∙ bytesIn-start (bytesIn c (take n (drop i s))) (take m (drop j s))
     ∙ ap (λ (k : ℕ). bitXor (turns 8 k (bytesIn c (take n (drop i s)))) (bytesIn 0 (take m (drop j s)))) l)
 
+-- eight bytes, those that wait for the register last, so that the others can be looked up before it is known
+pub eight-bytes : (c i : ℕ) (s : List ℕ) → i + 8 ≤ length s
+    → bitXor (turns 8 0 (bytesIn 0 (take 4 (drop (i + 4) s)))) (turns 8 4 (bytesIn c (take 4 (drop i s))))
+    ≡ bytesIn c (take 8 (drop i s))
+unfolding turns
+eight-bytes c i s h =
+    xor-comm (bytesIn 0 (take 4 (drop (i + 4) s))) (turns 8 4 (bytesIn c (take 4 (drop i s))))
+    ∙ first-part c 4 4 i (i + 4) s refl (omega arith)
+
+-- sixteen bytes, likewise
 pub sixteen-bytes : (c i : ℕ) (s : List ℕ) → i + 16 ≤ length s
-    → bitXor (turns 8 12 (bytesIn c (take 4 (drop i s))))
-    (bitXor (turns 8 8 (bytesIn 0 (take 4 (drop (i + 4) s))))
-    (bitXor (turns 8 4 (bytesIn 0 (take 4 (drop (i + 8) s)))) (turns 8 0 (bytesIn 0 (take 4 (drop (i + 12) s))))))
+    → bitXor (turns 8 0 (bytesIn 0 (take 4 (drop (i + 12) s))))
+    (bitXor (turns 8 4 (bytesIn 0 (take 4 (drop (i + 8) s))))
+    (bitXor (turns 8 8 (bytesIn 0 (take 4 (drop (i + 4) s)))) (turns 8 12 (bytesIn c (take 4 (drop i s))))))
     ≡ bytesIn c (take 16 (drop i s))
 unfolding turns
 sixteen-bytes c i s h =
-    ap (bitXor (turns 8 12 (bytesIn c (take 4 (drop i s)))))
-    (ap (bitXor (turns 8 8 (bytesIn 0 (take 4 (drop (i + 4) s)))))
-    (first-part 0 4 4 (i + 8) (i + 12) s (omega arith) (omega arith))
+    let first = turns 8 12 (bytesIn c (take 4 (drop i s))) in
+    let second = turns 8 8 (bytesIn 0 (take 4 (drop (i + 4) s))) in
+    xor-reversed first second (turns 8 4 (bytesIn 0 (take 4 (drop (i + 8) s)))) (bytesIn 0 (take 4 (drop (i + 12) s)))
+    ∙ ap (bitXor first)
+    (ap (bitXor second) (first-part 0 4 4 (i + 8) (i + 12) s (omega arith) (omega arith))
     ∙ first-part 0 4 8 (i + 4) (i + 8) s (omega arith) (omega arith))
     ∙ first-part c 4 12 i (i + 4) s refl (omega arith)
 

@@ -1,4 +1,5 @@
-// The way for long runs, and for callers that keep the table: sixteen bytes at a time, then four, then one.
+// The way for some thousand bytes, for what elimination leaves of longer runs, and for callers that keep the table: sixteen bytes
+// at a time, then four, then one.
 ghost use mathlib.Core.Path.{_≡_};
 ghost use Prim.Native.Nat.{suc, _+_, _%_, _≤_, _<_};
 ghost use lib.Bits.{bitXor};
@@ -35,14 +36,15 @@ fn four(t: &[u32; 4096], row: usize, c: u32, s: &[u8], at: usize) -> u32
             ^ (look(t, row + 1, c / 65536, s[at + 2]) ^ look(t, row, c / 16777216, s[at + 3])))
 }
 
-// Internal: the sixteen bytes from `at` on go into c.
+// Internal: the sixteen bytes from `at` on go into c. The first four, which wait for c, stand last: the machine xors in this
+// order, so it has the others' sum by the time c is known.
 fn sixteen(t: &[u32; 4096], c: u32, s: &[u8], at: usize) -> u32
     requires { ⌜ at + 16 ≤ length (now s) ⌝ }
     requires { ⌜ Rows 16 (now t) ⌝ }
     ensures { λ r. ⌜ r ≡ bytesIn c (take 16 (drop at (now (s .entry)))) ⌝ }
 {
-    four(t, 12, c, s, at)
-        ^ (four(t, 8, 0, s, at + 4) ^ (four(t, 4, 0, s, at + 8) ^ four(t, 0, 0, s, at + 12)))
+    four(t, 0, 0, s, at + 12)
+        ^ (four(t, 4, 0, s, at + 8) ^ (four(t, 8, 0, s, at + 4) ^ four(t, 12, c, s, at)))
 }
 
 // Internal: the bytes from `at` on go into c, one at a time.

@@ -81,16 +81,18 @@ fn switches(t: &[u32; 4096], s: &[u8])
 {
     lengths(t, s, 0, 71);
     lengths(t, s, 255, 258);
-    lengths(t, s, 508, 533);
+    lengths(t, s, 380, 405);
     lengths(t, s, 1023, 1026);
-    lengths(t, s, 4095, 4097);
+    lengths(t, s, 4094, 4099);
+    lengths(t, s, 10594, 10599);
+    lengths(t, s, 18787, 18790);
 }
 
 fn main() {
     let t = crc32::tables();
     published(&t);
     patterns(&t);
-    let mut s = io::buffer();
+    let mut s: [u8; 20000] = [0; 20000];
     fill(&mut s);
     switches(&t, &s);
 }

@@ -8,7 +8,7 @@ use Rattle.crc32.proofs.halves.table.Tie as tie
 
 returns : tie.Need-returns
 unfolding shifts shift
-returns c = digits-rule 4 8 _ refl tt tt
+returns c = digits-rule 4 16 _ refl tt tt
 
 pub table-spec : {M : Type 1} → statement M
 table-spec = tie.close (tie.spec returns)

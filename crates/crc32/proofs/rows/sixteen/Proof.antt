@@ -12,23 +12,23 @@ use borrow.Author.Needs.{needs}
 use Rattle.crc32.proofs.rows.sixteen.Statement.{statement}
 use Rattle.crc32.proofs.rows.sixteen.Tie as tie
 
-four-requires : tie.Need-four-requires
-four-requires c κs = search needs
-
 add-four : tie.Need-add-four
 add-four c = search needs
 
-four-requires-2 : tie.Need-four-requires-2
-four-requires-2 c κs = search needs
+four-requires : tie.Need-four-requires
+four-requires c κs = search needs
 
 add-four-2 : tie.Need-add-four-2
 add-four-2 c = search needs
 
-four-requires-3 : tie.Need-four-requires-3
-four-requires-3 c κs = search needs
+four-requires-2 : tie.Need-four-requires-2
+four-requires-2 c κs = search needs
 
 add-four-3 : tie.Need-add-four-3
 add-four-3 c = search needs
+
+four-requires-3 : tie.Need-four-requires-3
+four-requires-3 c κs = search needs
 
 four-requires-4 : tie.Need-four-requires-4
 four-requires-4 c κs = search needs
@@ -38,21 +38,21 @@ returns c =
     let a = c .before .before .before .before .before .args in
     let s = now (a .s) in
     let at = a .at in
-    let e₁ : c .before .before .before .four .result ≡ turns 8 12 (bytesIn (a .c) (take 4 (drop at s))) = c .before .before .before .four .ensures in
-    let e₂ : c .before .before .four2 .result ≡ turns 8 8 (bytesIn 0 (take 4 (drop (at + 4) s))) = c .before .before .four2 .ensures in
-    let e₃ : c .before .four3 .result ≡ turns 8 4 (bytesIn 0 (take 4 (drop (at + 8) s))) = c .before .four3 .ensures in
-    let e₄ : c .four4 .result ≡ turns 8 0 (bytesIn 0 (take 4 (drop (at + 12) s))) = c .four4 .ensures in
+    let e₁ : c .before .before .before .four .result ≡ turns 8 0 (bytesIn 0 (take 4 (drop (at + 12) s))) = c .before .before .before .four .ensures in
+    let e₂ : c .before .before .four2 .result ≡ turns 8 4 (bytesIn 0 (take 4 (drop (at + 8) s))) = c .before .before .four2 .ensures in
+    let e₃ : c .before .four3 .result ≡ turns 8 8 (bytesIn 0 (take 4 (drop (at + 4) s))) = c .before .four3 .ensures in
+    let e₄ : c .four4 .result ≡ turns 8 12 (bytesIn (a .c) (take 4 (drop at s))) = c .four4 .ensures in
     ap₂ bitXor e₁ (ap₂ bitXor e₂ (ap₂ bitXor e₃ e₄)) ∙ sixteen-bytes (a .c) at s (search needs)
 
 pub sixteen-spec : {M : Type 1} → statement M
 sixteen-spec =
     tie.close
     (tie.spec
-    four-requires
     add-four
-    four-requires-2
+    four-requires
     add-four-2
-    four-requires-3
+    four-requires-2
     add-four-3
+    four-requires-3
     four-requires-4
     returns)

@@ -5,7 +5,7 @@ use Prim.Native.Nat.{ℕ, zero, suc, _+_, _*_, _/_, _%_, _<_}
 use native.Mathlib.Nat.{mod-lt, zero-lt-suc}
 use native.Mathlib.Omega.{arith}
 use lib.Arith.{bin-ind, digits-mod}
-use lib.Bits.{differ, bitXor, xor-step, xor-shr, xor-comm, xor-self}
+use lib.Bits.{differ, bitXor, xor-step, xor-shr, xor-comm, xor-self, xor-zero-r}
 
 pub bit-lt : (x : ℕ) → x % 2 < 2
 bit-lt x = mod-lt x (zero-lt-suc 1)
@@ -51,3 +51,32 @@ xor4 a b c d = xor-assoc a b (bitXor c d) ∙ ap (bitXor a) (xor-swap b c d) ∙
 
 pub xor-twice : (a b : ℕ) → bitXor a (bitXor a b) ≡ b
 xor-twice a b = sym (xor-assoc a a b) ∙ ap (λ (x : ℕ). bitXor x b) (xor-self a)
+
+pub xor-undone : (a b : ℕ) → bitXor (bitXor a b) b ≡ a
+xor-undone a b = xor-assoc a b b ∙ ap (bitXor a) (xor-self b) ∙ xor-zero-r a
+
+pub xor-reversed : (a b c d : ℕ) → bitXor d (bitXor c (bitXor b a)) ≡ bitXor a (bitXor b (bitXor c d))
+xor-reversed a b c d =
+    xor-comm d (bitXor c (bitXor b a))
+    ∙ ap (λ (x : ℕ). bitXor x d) (xor-comm c (bitXor b a))
+    ∙ xor-assoc (bitXor b a) c d
+    ∙ ap (λ (x : ℕ). bitXor x (bitXor c d)) (xor-comm b a)
+    ∙ xor-assoc a b (bitXor c d)
+
+-- of single bits the difference is the xor
+differ-xor : (x y : ℕ) → x < 2 → y < 2 → differ x y ≡ bitXor x y
+differ-xor zero y hx hy = refl
+differ-xor (suc zero) zero hx hy = refl
+differ-xor (suc zero) (suc zero) hx hy = refl
+differ-xor (suc zero) (suc (suc y)) hx hy = absurd (omega arith)
+differ-xor (suc (suc x)) y hx hy = absurd (omega arith)
+
+pub differ4 : (a b c d : ℕ) → a < 2 → b < 2 → c < 2 → d < 2
+    → differ (differ a b) (differ c d) ≡ differ (differ a c) (differ b d)
+differ4 a b c d ha hb hc hd =
+    let across : (w x y z : ℕ) → w < 2 → x < 2 → y < 2 → z < 2
+    → differ (differ w x) (differ y z) ≡ bitXor (bitXor w x) (bitXor y z) =
+    λ w x y z hw hx hy hz.
+    differ-xor (differ w x) (differ y z) (differ-lt w x hw hx) (differ-lt y z hy hz)
+    ∙ ap₂ bitXor (differ-xor w x hw hx) (differ-xor y z hy hz) in
+    across a b c d ha hb hc hd ∙ xor4 a b c d ∙ sym (across a c b d ha hc hb hd)

@@ -1,0 +1,70 @@
+-- `crc32::eliminated::update` meets its contract: what is left of the run, from the zero register on, is the run from c on.
+-- Assumes nothing.
+use mathlib.Core.Path.{_∙_}
+use denote.Ref.{now}
+use Rattle.crc32.proofs.Register.{eliminated}
+use borrow.Author.Needs.{needs}
+use Rattle.crc32.proofs.eliminated.update.Statement.{statement}
+use Rattle.crc32.proofs.eliminated.update.Tie as tie
+
+shared-slice-read-eliminate : tie.Need-shared-slice-read-eliminate
+shared-slice-read-eliminate c = search needs
+
+low-requires : tie.Need-low-requires
+low-requires c κs = search needs
+
+shared-slice-read-eliminate-2 : tie.Need-shared-slice-read-eliminate-2
+shared-slice-read-eliminate-2 c = search needs
+
+low-requires-2 : tie.Need-low-requires-2
+low-requires-2 c κs = search needs
+
+shared-slice-read-eliminate-3 : tie.Need-shared-slice-read-eliminate-3
+shared-slice-read-eliminate-3 c = search needs
+
+low-requires-3 : tie.Need-low-requires-3
+low-requires-3 c κs = search needs
+
+shared-slice-read-eliminate-4 : tie.Need-shared-slice-read-eliminate-4
+shared-slice-read-eliminate-4 c = search needs
+
+low-requires-4 : tie.Need-low-requires-4
+low-requires-4 c κs = search needs
+
+eliminate-requires : tie.Need-eliminate-requires
+eliminate-requires c κs = search needs
+
+slice-aggregate-sixteens : tie.Need-slice-aggregate-sixteens
+slice-aggregate-sixteens c = search needs
+
+sixteens-requires : tie.Need-sixteens-requires
+sixteens-requires c κs = search needs
+
+returns : tie.Need-returns
+returns c =
+    let e = c .before .before .eliminate in
+    let l₄ = c .before .before .before .before in
+    let l₃ = l₄ .before .before in
+    let l₂ = l₃ .before .before in
+    let l₁ = l₂ .before .before in
+    let a = l₁ .before .before .before .args in
+    c .sixteens .ensures
+    ∙ eliminated (a .c) (l₁ .low .result) (l₂ .low2 .result) (l₃ .low3 .result) (l₄ .low4 .result) (now (a .s)) (e .last .1 .1 .1 .1 .1 .0) (search needs) (search needs)
+    (l₁ .low .ensures) (l₂ .low2 .ensures) (l₃ .low3 .ensures) (l₄ .low4 .ensures) (e .ensures .1)
+
+pub update-spec : {M : Type 1} → statement M
+update-spec =
+    tie.close
+    (tie.spec
+    shared-slice-read-eliminate
+    low-requires
+    shared-slice-read-eliminate-2
+    low-requires-2
+    shared-slice-read-eliminate-3
+    low-requires-3
+    shared-slice-read-eliminate-4
+    low-requires-4
+    eliminate-requires
+    slice-aggregate-sixteens
+    sixteens-requires
+    returns)

@@ -1,0 +1,4 @@
+pub mod Xor
+pub mod Run
+pub mod Fold
+pub mod Places

@@ -1,0 +1,29 @@
+-- `measure_crc::measure_crc_parts` meets its contract: the parts, from `start` on and finished, are the CRC.
+-- Assumes nothing.
+use mathlib.Core.Path.{ap, _∙_}
+use Prim.Native.Nat.{ℕ}
+use lib.Bits.{bitXor}
+use Rattle.crc32.specs.Crc.{allOnes, crcOf}
+use borrow.Author.Needs.{needs}
+use Rattle.measure_crc.proofs.measure_crc_parts.Statement.{statement}
+use Rattle.measure_crc.proofs.measure_crc_parts.Tie as tie
+
+crc32-requires : tie.Need-crc32-requires
+crc32-requires c κs = search needs
+
+returns : tie.Need-returns
+returns c = search needs
+
+parts-requires : tie.Need-parts-requires
+parts-requires c κs = search needs
+
+finish-requires : tie.Need-finish-requires
+finish-requires c κs = search needs
+
+returns-2 : tie.Need-returns-2
+unfolding crcOf
+returns-2 c = c .finish .ensures ∙ ap (λ (x : ℕ). bitXor x allOnes) (c .before .parts .ensures)
+
+pub measure-crc-parts-spec : {M : Type 1} → statement M
+measure-crc-parts-spec =
+    tie.close (tie.spec crc32-requires returns parts-requires finish-requires returns-2)
