@@ -1,0 +1,4 @@
+pub mod LookLaws
+pub mod ShapeLaws
+pub mod PutLaws
+pub mod MixLaws

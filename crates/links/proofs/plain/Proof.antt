@@ -1,0 +1,19 @@
+-- `links::plain` meets its contract.
+-- Assumes nothing.
+use borrow.Author.Needs.{needs}
+use Rattle.links.specs.Links.{plainWord}
+use Rattle.links.proofs.plain.Statement.{statement}
+use Rattle.links.proofs.plain.Tie as tie
+
+mul-result : tie.Need-mul-result
+mul-result c = search needs
+
+add-result : tie.Need-add-result
+add-result c = search needs
+
+returns : tie.Need-returns
+unfolding plainWord
+returns c = search needs
+
+pub plain-spec : {M : Type 1} → statement M
+plain-spec = tie.close (tie.spec mul-result add-result returns)

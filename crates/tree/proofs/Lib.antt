@@ -1,0 +1,9 @@
+pub mod TreeLinks
+pub mod RowLaws
+pub mod InsertLaws
+pub mod FrontLaws
+pub mod FindLaws
+pub mod MarkLaws
+pub mod SkipLaws
+pub mod SpliceLaws
+pub mod TakeUpLaws
