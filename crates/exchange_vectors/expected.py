@@ -26,9 +26,9 @@ rise = bytes((7 * i + 3) % 256 for i in range(4097))
 of_byte_lengths = 0, 1, 300, 4096, 4097
 of_word_lengths = 0, 1, 3, 64, 65
 show("bytes", rise, of_byte_lengths, of_bytes)
-for name, form, size in ("words", "Q", 8), ("entries", "I", 4):
-    loaded = struct.unpack(f"<65{form}", rise[: 65 * size])
-    ones = (2 ** (8 * size) - 1,) * 65
-    for values in loaded, ones, (0,) * 65, (0, 0, 10) + (0,) * 62:
-        show(name, values, of_word_lengths, of_words)
+for part, fill in (rise, 0), (rise[:20], 7), (b"", 2**64 - 1), (b"", 0), (bytes(8) + b"\n" + bytes(7), 0):
+    for form, size in ("Q", 8), ("I", 4):
+        whole = min(65, len(part) // size)
+        loaded = struct.unpack(f"<{whole}{form}", part[: whole * size])
+        show("words", loaded + (fill % 2 ** (8 * size),) * (65 - whole), of_word_lengths, of_words)
 show("bytes", b"\xff" * 4097, of_byte_lengths, of_bytes)

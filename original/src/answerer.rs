@@ -6,9 +6,6 @@ use std::{
     thread,
 };
 
-/// The answer to a call that has no code yet (docs/QUESTIONS.md).
-pub const NOT_YET: &[u8] = b"not yet\n.\n";
-
 pub trait Answerer {
     /// The text of each answer, the line `.` included; fewer if it stopped answering.
     fn answers(&mut self, bodies: &[Vec<u8>]) -> Vec<Vec<u8>>;

@@ -1,11 +1,14 @@
 //! Many cases, two answers each; stops at the first difference, which can be shrunk and written down.
 use crate::{
-    answerer::{Answerer, NOT_YET},
+    answerer::Answerer,
     beside::Beside,
-    shrink::{differs, shrink},
+    not_yet::{NOT_YET, is_listed},
+    shrink::shrink,
 };
 use model::request::with_length;
 use std::{collections::BTreeMap, fs, io, path::Path, slice};
+
+const BAD_REQUEST: &[u8] = b"bad request\n.\n";
 
 /// Cases asked at once.
 const TOGETHER: usize = 4000;
@@ -18,13 +21,20 @@ pub struct Tally {
     not_yet: u64,
 }
 
+/// The one answer that passes.
+struct Wanted {
+    text: String,
+    /// What makes any answer wrong, or why this one is wanted, in words.
+    notes: Vec<String>,
+    /// Model and original differ.
+    is_open: bool,
+}
+
 pub struct Difference {
     pub index: usize,
     pub body: Vec<u8>,
-    pub ours: String,
+    wanted: Wanted,
     pub theirs: Vec<u8>,
-    /// Where model and original differ, in words.
-    pub findings: Vec<String>,
 }
 
 pub fn compare(
@@ -41,7 +51,7 @@ pub fn compare(
         }
         let answers = other.answers(&some);
         for (place, body) in some.iter().enumerate() {
-            if differs(body, &mut beside, answers.get(place)) {
+            if differs(body, answers.get(place), &mut beside) {
                 return Err(Difference::new(asked + place, body.clone(), &mut beside, other));
             }
             tally.add(body, &answers[place]);
@@ -51,14 +61,36 @@ pub fn compare(
     }
 }
 
+pub fn differs(body: &[u8], given: Option<&Vec<u8>>, beside: &mut Beside) -> bool {
+    Wanted::of(body, given, beside).differs(given)
+}
+
+impl Wanted {
+    /// Beside this answer: to a call without code `bad request` may be right too.
+    fn of(body: &[u8], given: Option<&Vec<u8>>, beside: &mut Beside) -> Self {
+        if is_listed(body) && given.map(Vec::as_slice) != Some(BAD_REQUEST) {
+            let notes = vec!["original/not-yet.txt lists this call as one without code".into()];
+            return Self { text: NOT_YET.into(), notes, is_open: false };
+        }
+        let answer = beside.answer(body);
+        let notes: Vec<String> =
+            answer.findings.iter().map(|finding| format!("model and original: {finding}")).collect();
+        Self { text: answer.reply.text(), is_open: !notes.is_empty(), notes }
+    }
+
+    fn differs(&self, given: Option<&Vec<u8>>) -> bool {
+        self.is_open || given.map(Vec::as_slice) != Some(self.text.as_bytes())
+    }
+}
+
 impl Tally {
     fn add(&mut self, body: &[u8], answer: &[u8]) {
-        if answer == NOT_YET {
+        if answer == NOT_YET.as_bytes() {
             self.not_yet += 1;
             return;
         }
         *self.alike.entry(body.first().copied().unwrap_or(0)).or_default() += 1;
-        self.bad_requests += u64::from(answer == b"bad request\n.\n");
+        self.bad_requests += u64::from(answer == BAD_REQUEST);
     }
 
     pub fn text(&self) -> String {
@@ -74,9 +106,9 @@ impl Tally {
 
 impl Difference {
     fn new(index: usize, body: Vec<u8>, beside: &mut Beside, other: &mut dyn Answerer) -> Self {
-        let wanted = beside.answer(&body);
         let theirs = other.answers(slice::from_ref(&body)).into_iter().next().unwrap_or_default();
-        Self { index, body, ours: wanted.reply.text(), theirs, findings: wanted.findings }
+        let wanted = Wanted::of(&body, Some(&theirs), beside);
+        Self { index, body, wanted, theirs }
     }
 
     pub fn shrunk(self, other: &mut dyn Answerer) -> Self {
@@ -89,7 +121,12 @@ impl Difference {
     pub fn write_to(&self, folder: &Path) -> io::Result<()> {
         fs::create_dir_all(folder)?;
         fs::write(folder.join("request.bin"), with_length(&self.body))?;
-        fs::write(folder.join("wanted.txt"), &self.ours)?;
+        fs::write(folder.join("wanted.txt"), &self.wanted.text)?;
         fs::write(folder.join("given.txt"), &self.theirs)
+    }
+
+    pub fn text(&self) -> String {
+        let notes: String = self.wanted.notes.iter().map(|note| format!("{note}\n")).collect();
+        format!("{notes}wanted\n{}given\n{}", self.wanted.text, String::from_utf8_lossy(&self.theirs))
     }
 }

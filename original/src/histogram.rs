@@ -75,7 +75,7 @@ pub fn label(reply: &Reply) -> String {
         | Reply::Written { outcome: Err(WriteRefusal::Writer(number)), .. }
         | Reply::Lookup(Err(number))
         | Reply::Cache { outcome: Err(number), .. } => format!("refused {number:02}"),
-        Reply::View { number, .. } | Reply::Coordinates(number) => format!("number {number:02}"),
+        Reply::View { number, .. } => format!("number {number:02}"),
         Reply::Lookup(Ok(Some(_))) => "node".into(),
         Reply::Crc(_) => "crc".into(),
         Reply::Rng(_) => "rng".into(),

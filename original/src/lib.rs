@@ -23,5 +23,6 @@ pub mod histogram;
 pub mod large;
 mod messages;
 pub mod native;
+mod not_yet;
 mod shrink;
 mod vecnook;

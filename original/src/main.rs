@@ -32,7 +32,7 @@ original native-short SEED N [KIND]        native, and every shorter memory for 
 original large [NAME]                      lists the named cases, or runs one (`all`: all) beside the original
 original native-large [NAME]               the same with the native host
 KIND is mixed (default), pairs, caches, encoders, tables or small.
-An answer `not yet`, of a call without code, is counted apart and not compared.
+A call of not-yet.txt must be answered `not yet`, and is counted apart; of any other call `not yet` is a difference.
 A difference is written to target/difference: request.bin, wanted.txt, given.txt.";
 
 fn main() {
@@ -195,10 +195,7 @@ fn report(compared: Result<Tally, Difference>) -> bool {
         difference.body.len(),
         folder.display()
     );
-    for finding in &difference.findings {
-        println!("model and original: {finding}");
-    }
-    println!("wanted\n{}given\n{}", difference.ours, String::from_utf8_lossy(&difference.theirs));
+    println!("{}", difference.text());
     false
 }
 

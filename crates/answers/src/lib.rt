@@ -1,40 +1,30 @@
-// The answers of docs/QUESTIONS.md. A tool for tests: proved to be safe and to end; what it answers is compared with the original.
+// The answers of docs/QUESTIONS.md. A tool for tests: proved to be safe and to end, and to keep its text within the lent memory;
+// what it answers is compared with the original.
 //
-// A call has a module call_NAME and an arm in `lines_of`. Its function `lines` is handed a request whose numbers and parts are
-// as many as the call takes, writes the lines of the answer but the last, and gives the cursor behind them.
+// The calls are answered by the crates answers_*, one for each part of the store, so that a new call proves none of the others
+// anew. Each has a function `lines`, which is handed a request that is no bad request, and lent memory of the length that the
+// request has, filled; it writes the lines of the answer but the last, and gives the cursor behind them.
 ghost use Prim.Native.Nat.{_≤_};
 ghost use lib.ListN.{length};
-
-mod call_coordinates;
-mod call_crc;
-mod call_defaults;
-mod call_delete_frame;
-mod call_encode;
-mod call_lookup;
-mod call_read;
-mod call_rng_state;
-mod call_utf8;
-mod call_validate;
-mod call_view;
-mod call_write;
-mod records;
-
+use exchange::lend;
 use exchange::request;
 use exchange::request::Asked;
 use exchange::text;
 use exchange::text::Cursor;
 
-// The request is without its length field. Gives the length of the text, or 0 if the lent memory does not suffice.
-pub fn answer_request(
+// The request is without its length field. Gives the length of the text, or 0 if the lent memory does not suffice. To a host in
+// C each slice is a pointer and a length.
+#[no_mangle]
+pub extern "C" fn answer_request(
     request: &[u8],
     words: &mut [u64],
-    coordinates: &mut [u32],
+    entries: &mut [u32],
     output: &mut [u8],
     answer: &mut [u8],
 ) -> usize
     ensures { λ r. ⌜ r ≤ length (now (answer .entry)) ⌝ }
 {
-    let lines = lines(request, words, coordinates, output, answer);
+    let lines = lines(request, words, entries, output, answer);
     let whole = text::line(answer, lines, b".");
     text::length(answer, whole)
 }
@@ -43,42 +33,77 @@ pub fn answer_request(
 fn lines(
     request: &[u8],
     words: &mut [u64],
-    coordinates: &mut [u32],
+    entries: &mut [u32],
     output: &mut [u8],
     answer: &mut [u8],
 ) -> Cursor {
     match request::call_of(request) {
-        Asked::Call(call) => lines_of(call, request, words, coordinates, output, answer),
+        Asked::Call(call) => lent(call, request, words, entries, output, answer),
         Asked::Bad => text::bad_request(answer),
     }
 }
 
+// The call is lent as much as the request has.
+fn lent(
+    call: u8,
+    request: &[u8],
+    words: &mut [u64],
+    entries: &mut [u32],
+    output: &mut [u8],
+    answer: &mut [u8],
+) -> Cursor {
+    let w = lend::words_taken(request, call);
+    let e = lend::entries_taken(request, call);
+    let o = lend::output_taken(request, call);
+    if words.len() < w {
+        return text::too_little();
+    }
+    if entries.len() < e {
+        return text::too_little();
+    }
+    if output.len() < o {
+        return text::too_little();
+    }
+    filled(
+        call,
+        request,
+        &mut words[0..w],
+        &mut entries[0..e],
+        &mut output[0..o],
+        answer,
+    )
+}
+
+fn filled(
+    call: u8,
+    request: &[u8],
+    words: &mut [u64],
+    entries: &mut [u32],
+    output: &mut [u8],
+    answer: &mut [u8],
+) -> Cursor {
+    lend::fill_words(request, call, words);
+    lend::fill_entries(request, call, entries);
+    lend::fill_output(request, call, output);
+    lines_of(call, request, words, entries, output, answer)
+}
+
+// A call that no arm has is in original/not-yet.txt.
 fn lines_of(
     call: u8,
     request: &[u8],
     words: &mut [u64],
-    coordinates: &mut [u32],
+    entries: &mut [u32],
     output: &mut [u8],
     answer: &mut [u8],
 ) -> Cursor {
     match call {
-        1 => call_crc::lines(request, answer),
-        2 => call_utf8::lines(request, answer),
-        3 => call_defaults::lines(request, answer),
-        4 => call_validate::lines(request, answer),
-        5 => call_coordinates::lines(request, answer),
-        6 => call_rng_state::lines(request, answer),
-        7 => call_read::lines(request, words, coordinates, answer),
-        10 => call_encode::lines(false, request, words, coordinates, output, answer),
-        11 => call_encode::lines(true, request, words, coordinates, output, answer),
-        12 => call_write::lines(false, request, words, output, answer),
-        13 => call_write::lines(true, request, words, output, answer),
-        16 => call_lookup::lines(request, words, answer),
-        17 => call_view::lines(false, request, words, answer),
-        18 => call_view::lines(true, request, words, answer),
-        21 => call_crc::c_lines(request, answer),
-        22 => call_utf8::c_lines(request, answer),
-        23 => call_delete_frame::lines(request, output, answer),
+        1 | 2 | 3 | 4 | 5 | 6 => answers_leaves::lines(call, request, answer),
+        7 | 16 | 17 | 18 => answers_store::lines(call, request, words, entries, answer),
+        10 | 11 | 12 | 13 | 21 | 22 | 23 => {
+            answers_written::lines(call, request, words, entries, output, answer)
+        }
+        19 | 20 => answers_graph::lines(call, request, words, entries, answer),
         _ => text::line(answer, text::start(), b"not yet"),
     }
 }

@@ -1,4 +1,4 @@
--- The bounds of document 01, in its order, and the defaults of `Config::new`. `limits` of src/lib.rt is proved to have the same numbers.
+-- The bounds of document 01, in its order, and the defaults of `Config::new`.
 use Prim.Native.Nat.{ℕ}
 
 -- d, the coordinates of a vector: 1..=4096
@@ -33,10 +33,6 @@ minSnapshotBytes = 52
 
 abbrev pub maxSnapshotBytes : ℕ
 maxSnapshotBytes = 268435456
-
--- the header of a version 2 snapshot
-abbrev pub snapshotHeaderBytes : ℕ
-snapshotHeaderBytes = 52
 
 -- a cache's bytes: 52..=134,217,728
 abbrev pub minCacheBytes : ℕ

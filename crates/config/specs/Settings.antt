@@ -1,15 +1,15 @@
--- Settings: their defaults, what is refused of them by document 01's number, and the metric's number in a file.
+-- Settings: their defaults, what is refused of them, the metric's number in a file, and how long a caption may be.
 use Prim.Native.Nat.{ℕ, _≤_}
-use mathlib.Core.Bool.{Bool, true, false, _&&_}
+use mathlib.Core.Bool.{Bool, true, false, not, _&&_, cond}
 use lib.Dec.{leb, eqb}
-use Rattle.config.specs.Limits.{minDimensions, maxDimensions, minM, maxM, maxEf, defaultM, defaultEf, defaultSeed}
+use Rattle.refusal.specs.Refusal.{Result, answer, refused, _>>=_, refuse, told}
+use Rattle.refusal.specs.declared.Refusal.the-variants.{WrongMetric, WrongDimensions, WrongM, WrongEf}
+use Rattle.config.specs.Limits.{minDimensions, maxDimensions, minM, maxM, maxEf, maxMetadata, defaultM, defaultEf, defaultSeed}
 use Rattle.config.specs.declared.Metric.{Metric}
 use Rattle.config.specs.declared.Metric.the-variants.{SquaredL2, Cosine, InnerProduct}
 use Rattle.config.specs.declared.ReadMetric.{ReadMetric}
-use Rattle.config.specs.declared.ReadMetric.the-variants as R
+use Rattle.config.specs.declared.ReadMetric.the-variants as Metrics
 use Rattle.config.specs.declared.Config.{Config}
-use Rattle.config.specs.declared.Validity.{Validity}
-use Rattle.config.specs.declared.Validity.the-variants as C
 
 -- 0 squared L2, 1 cosine, 2 inner product
 abbrev pub metricNumber : Metric → ℕ
@@ -17,27 +17,21 @@ metricNumber SquaredL2 = 0
 metricNumber Cosine = 1
 metricNumber InnerProduct = 2
 
-abbrev pub pickMetric : Bool → ReadMetric → ReadMetric → ReadMetric
-pickMetric true a b = a
-pickMetric false a b = b
+abbrev pub isCosine : Metric → Bool
+isCosine SquaredL2 = false
+isCosine Cosine = true
+isCosine InnerProduct = false
 
 -- any other number is refused by 5
-unfoldable pub readMetricOf : ℕ → ReadMetric
-readMetricOf v =
-    pickMetric (eqb v 0) (R.Known SquaredL2)
-    (pickMetric (eqb v 1) (R.Known Cosine)
-    (pickMetric (eqb v 2) (R.Known InnerProduct)
-    (R.Refused 5)))
+unfoldable pub metricOf : ℕ → Result Metric
+metricOf v =
+    cond (eqb v 0) (answer SquaredL2)
+    (cond (eqb v 1) (answer Cosine)
+    (cond (eqb v 2) (answer InnerProduct)
+    (refused WrongMetric)))
 
--- document 01's number, 0 where nothing is refused
-abbrev pub readMetricNumber : ReadMetric → ℕ
-readMetricNumber (R.Known k) = 0
-readMetricNumber (R.Refused n) = n
-
--- what a caller answers: `refused` of the number, or else `rest` of the metric
-abbrev pub afterMetric : {A : Type 0} → (ℕ → A) → (Metric → A) → ReadMetric → A
-afterMetric refused rest (R.Known k) = rest k
-afterMetric refused rest (R.Refused n) = refused n
+abbrev pub metricTold : Result Metric → ReadMetric
+metricTold = told (λ m. Metrics.Known m) (λ why. Metrics.Refused why)
 
 -- d, M, ef, seed, metric
 abbrev pub settings : ℕ → ℕ → ℕ → ℕ → Metric → Config
@@ -66,28 +60,16 @@ withMetric c metric = settings (c .dimensions) (c .m) (efOf c) (c .seed) metric
 unfoldable pub inRange : ℕ → ℕ → ℕ → Bool
 inRange x low high = leb low x && leb x high
 
--- what the later tests say where this one holds; otherwise refused by n
-abbrev pub unless : Bool → ℕ → Validity → Validity
-unless true n later = later
-unless false n later = C.Refused n
+-- 6, 7, 8: d, then M, then ef, whose lower bound is M
+unfoldable pub validate : Config → Result (Unit {0})
+validate c = do
+  _ ← refuse WrongDimensions (not (inRange (c .dimensions) minDimensions maxDimensions))
+  _ ← refuse WrongM (not (inRange (c .m) minM maxM))
+  refuse WrongEf (not (inRange (efOf c) (c .m) maxEf))
 
--- d, then M, then ef, whose lower bound is M
-unfoldable pub validityOf : Config → Validity
-validityOf c =
-    unless (inRange (c .dimensions) minDimensions maxDimensions) 6
-    (unless (inRange (c .m) minM maxM) 7
-    (unless (inRange (efOf c) (c .m) maxEf) 8
-    C.Valid))
-
--- document 01's number, 0 where nothing is refused
-abbrev pub validityNumber : Validity → ℕ
-validityNumber C.Valid = 0
-validityNumber (C.Refused n) = n
-
--- what a caller answers: `refused` of the number, or else `rest`, the answer that its later checks give
-abbrev pub afterValidity : {A : Type 0} → (ℕ → A) → A → Validity → A
-afterValidity refused rest C.Valid = rest
-afterValidity refused rest (C.Refused n) = refused n
+-- how long a caption may be, wherever one is read or written
+abbrev pub captionLimit : Config → ℕ
+captionLimit c = maxMetadata
 
 -- the bounds that a valid config keeps: 1 ≤ d ≤ 4096, 2 ≤ M ≤ 64, M ≤ ef ≤ 4096
 pub record Bounded (c : Config) : Type 0 where

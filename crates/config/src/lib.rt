@@ -1,8 +1,10 @@
 // The settings of a store, and the limits of document 01: the one place in the code that spells a limit.
 // Definitions: specs/Limits.antt, specs/Settings.antt.
 ghost use mathlib.Core.Path.{_≡_};
-ghost use Rattle.config.specs.Limits.{minDimensions, maxDimensions, minM, maxM, maxEf, maxMetadata, maxRecords, minSnapshotBytes, maxSnapshotBytes, snapshotHeaderBytes, minCacheBytes, maxCacheBytes, minFrame, maxFrame, maxBatchOperations, maxLogBytes, defaultM, defaultEf, defaultSeed};
-ghost use Rattle.config.specs.Settings.{defaults, withM, withEf, withSeed, withMetric, inRange, validityOf, readMetricOf, metricNumber};
+ghost use Rattle.refusal.specs.Refusal.{checked};
+ghost use Rattle.config.specs.Settings.{defaults, withM, withEf, withSeed, withMetric, inRange, validate as validateOf, metricOf, metricTold, metricNumber, isCosine, captionLimit};
+use refusal::Checked;
+use refusal::Refusal;
 
 // The number in the file is `Metric::number`.
 pub enum Metric {
@@ -11,21 +13,21 @@ pub enum Metric {
     InnerProduct,
 }
 
-// What a metric's number in a file is read as; a refusal carries document 01's number.
+// What a metric's number in a file is read as.
 pub enum ReadMetric {
     Known(Metric),
-    Refused(u32),
+    Refused(Refusal),
 }
 
 impl Metric {
     pub fn from_u32(v: u32) -> ReadMetric
-        ensures { λ r. ⌜ r ≡ readMetricOf v ⌝ }
+        ensures { λ r. ⌜ r ≡ metricTold (metricOf v) ⌝ }
     {
         match v {
             0 => ReadMetric::Known(Metric::SquaredL2),
             1 => ReadMetric::Known(Metric::Cosine),
             2 => ReadMetric::Known(Metric::InnerProduct),
-            _ => ReadMetric::Refused(5),
+            _ => ReadMetric::Refused(Refusal::WrongMetric),
         }
     }
 
@@ -38,6 +40,16 @@ impl Metric {
             Metric::InnerProduct => 2,
         }
     }
+
+    pub fn is_cosine(self) -> bool
+        ensures { λ r. ⌜ r ≡ isCosine self ⌝ }
+    {
+        match self {
+            Metric::SquaredL2 => false,
+            Metric::Cosine => true,
+            Metric::InnerProduct => false,
+        }
+    }
 }
 
 pub struct Config {
@@ -46,12 +58,6 @@ pub struct Config {
     pub ef_construction: usize,
     pub seed: u64,
     pub metric: Metric,
-}
-
-// What `Config::validate` answers; a refusal carries document 01's number.
-pub enum Validity {
-    Valid,
-    Refused(u32),
 }
 
 impl Config {
@@ -72,8 +78,6 @@ impl Config {
     pub const MIN_SNAPSHOT_BYTES: usize = 52;
 
     pub const MAX_SNAPSHOT_BYTES: usize = 268_435_456;
-
-    pub const SNAPSHOT_HEADER_BYTES: usize = 52;
 
     pub const MIN_CACHE_BYTES: usize = 52;
 
@@ -138,22 +142,29 @@ impl Config {
         }
     }
 
-    pub fn validate(self) -> Validity
-        ensures { λ r. ⌜ r ≡ validityOf self ⌝ }
+    pub fn validate(self) -> Checked
+        ensures { λ r. ⌜ r ≡ checked (validateOf self) ⌝ }
     {
         let d = self.dimensions;
         let m = self.m;
         let ef = self.ef_construction;
         if !in_range(d, Config::MIN_DIMENSIONS, Config::MAX_DIMENSIONS) {
-            return Validity::Refused(6);
+            return Checked::Refused(Refusal::WrongDimensions);
         }
         if !in_range(m, Config::MIN_M, Config::MAX_M) {
-            return Validity::Refused(7);
+            return Checked::Refused(Refusal::WrongM);
         }
         if !in_range(ef, m, Config::MAX_EF) {
-            return Validity::Refused(8);
+            return Checked::Refused(Refusal::WrongEf);
         }
-        Validity::Valid
+        Checked::Passed
+    }
+
+    // How long a caption may be. Whoever tests a caption's length asks here.
+    pub fn caption_limit(self) -> usize
+        ensures { λ r. ⌜ r ≡ captionLimit self ⌝ }
+    {
+        Config::MAX_METADATA
     }
 }
 
@@ -166,26 +177,3 @@ pub fn in_range(x: usize, low: usize, high: usize) -> bool
     }
     x <= high
 }
-
-// Does nothing: its promise is that the code's limits are the definitions'.
-pub fn limits()
-    ensures { λ _. do ⌜ (← ⟦Config::MIN_DIMENSIONS⟧ .entry) ≡ minDimensions ⌝ }
-    ensures { λ _. do ⌜ (← ⟦Config::MAX_DIMENSIONS⟧ .entry) ≡ maxDimensions ⌝ }
-    ensures { λ _. do ⌜ (← ⟦Config::MIN_M⟧ .entry) ≡ minM ⌝ }
-    ensures { λ _. do ⌜ (← ⟦Config::MAX_M⟧ .entry) ≡ maxM ⌝ }
-    ensures { λ _. do ⌜ (← ⟦Config::MAX_EF⟧ .entry) ≡ maxEf ⌝ }
-    ensures { λ _. do ⌜ (← ⟦Config::MAX_METADATA⟧ .entry) ≡ maxMetadata ⌝ }
-    ensures { λ _. do ⌜ (← ⟦Config::MAX_RECORDS⟧ .entry) ≡ maxRecords ⌝ }
-    ensures { λ _. do ⌜ (← ⟦Config::MIN_SNAPSHOT_BYTES⟧ .entry) ≡ minSnapshotBytes ⌝ }
-    ensures { λ _. do ⌜ (← ⟦Config::MAX_SNAPSHOT_BYTES⟧ .entry) ≡ maxSnapshotBytes ⌝ }
-    ensures { λ _. do ⌜ (← ⟦Config::SNAPSHOT_HEADER_BYTES⟧ .entry) ≡ snapshotHeaderBytes ⌝ }
-    ensures { λ _. do ⌜ (← ⟦Config::MIN_CACHE_BYTES⟧ .entry) ≡ minCacheBytes ⌝ }
-    ensures { λ _. do ⌜ (← ⟦Config::MAX_CACHE_BYTES⟧ .entry) ≡ maxCacheBytes ⌝ }
-    ensures { λ _. do ⌜ (← ⟦Config::MIN_FRAME⟧ .entry) ≡ minFrame ⌝ }
-    ensures { λ _. do ⌜ (← ⟦Config::MAX_FRAME⟧ .entry) ≡ maxFrame ⌝ }
-    ensures { λ _. do ⌜ (← ⟦Config::MAX_BATCH_OPERATIONS⟧ .entry) ≡ maxBatchOperations ⌝ }
-    ensures { λ _. do ⌜ (← ⟦Config::MAX_LOG_BYTES⟧ .entry) ≡ maxLogBytes ⌝ }
-    ensures { λ _. do ⌜ (← ⟦Config::DEFAULT_M⟧ .entry) ≡ defaultM ⌝ }
-    ensures { λ _. do ⌜ (← ⟦Config::DEFAULT_EF⟧ .entry) ≡ defaultEf ⌝ }
-    ensures { λ _. do ⌜ (← ⟦Config::DEFAULT_SEED⟧ .entry) ≡ defaultSeed ⌝ }
-{}

@@ -2,8 +2,8 @@
 use config::Config;
 use config::Metric;
 use config::ReadMetric;
-use config::Validity;
 use libc::STDOUT_FILENO;
+use refusal::Checked;
 use rows::Id;
 use rows::Node;
 use rows::Operation;
@@ -21,15 +21,30 @@ fn yes(b: bool) -> u64 {
 fn show_validity(d: usize, m: usize, ef: usize) {
     let c = Config::new(d).with_m(m).with_ef_construction(ef);
     match c.validate() {
-        Validity::Valid => show(0),
-        Validity::Refused(n) => show(n as u64),
+        Checked::Passed => show(0),
+        Checked::Refused(why) => show(why.number() as u64),
     }
+}
+
+// Every field, after those that are named were set.
+fn show_settings(seed: u64, metric: Metric) {
+    let c = Config::new(3)
+        .with_m(5)
+        .with_ef_construction(7)
+        .with_seed(seed)
+        .with_metric(metric);
+    let k = c.metric;
+    show(c.dimensions as u64);
+    show(c.m as u64);
+    show(c.ef_construction as u64);
+    show(c.seed);
+    show(k.number() as u64);
 }
 
 fn show_metric(v: u32) {
     match Metric::from_u32(v) {
         ReadMetric::Known(k) => show(k.number() as u64),
-        ReadMetric::Refused(n) => show(n as u64),
+        ReadMetric::Refused(why) => show(why.number() as u64),
     }
 }
 
@@ -42,6 +57,9 @@ fn settings() {
     show_validity(1, 65, 0);
     show_validity(1, 64, 63);
     show_validity(1, 64, 4097);
+    show_settings(0, Metric::SquaredL2);
+    show_settings(18_446_744_073_709_551_615, Metric::Cosine);
+    show_settings(11, Metric::InnerProduct);
 }
 
 fn metrics() {
@@ -56,15 +74,39 @@ fn show_row(word: u64) {
     let r = Row::unpack(Id(7), word);
     show(yes(r.deleted));
     show(yes(r.from_log));
-    show(r.caption as u64);
+    show(r.caption_length as u64);
     show(r.at as u64);
 }
 
 fn show_operation(word: u64) {
     let o = Operation::unpack(Id(7), word);
     show(yes(o.put));
-    show(o.caption as u64);
+    show(o.caption_length as u64);
     show(o.at as u64);
+}
+
+fn operations() {
+    let most = Operation {
+        id: Id(7),
+        put: true,
+        caption_length: 32_767,
+        at: 281_474_976_710_655,
+    };
+    show(most.pack());
+    let bare = Operation {
+        id: Id(7),
+        put: true,
+        caption_length: 0,
+        at: 0,
+    };
+    show(bare.pack());
+    let delete = Operation {
+        id: Id(7),
+        put: false,
+        caption_length: 0,
+        at: 0,
+    };
+    show(delete.pack());
 }
 
 fn words() {
@@ -72,7 +114,7 @@ fn words() {
         id: Id(7),
         deleted: false,
         from_log: true,
-        caption: 2,
+        caption_length: 2,
         at: 64,
     };
     show(p12.pack());
@@ -80,14 +122,14 @@ fn words() {
         id: Id(7),
         deleted: true,
         from_log: true,
-        caption: 32_767,
+        caption_length: 32_767,
         at: 140_737_488_355_327,
     };
     show(full.pack());
     let put = Operation {
         id: Id(7),
         put: true,
-        caption: 2,
+        caption_length: 2,
         at: 5,
     };
     show(put.pack());
@@ -105,7 +147,7 @@ fn tables() {
         id: Id(7),
         deleted: true,
         from_log: false,
-        caption: 0,
+        caption_length: 0,
         at: 61,
     };
     rows::set_row(&mut rows, Node(1), gone);
@@ -131,6 +173,7 @@ fn main() {
     settings();
     metrics();
     words();
+    operations();
     tables();
     states();
 }

@@ -13,8 +13,8 @@ use lib.Seq.{drop-cons, drop-drop, drop-length}
 use Rattle.fields.specs.Fields.{num}
 use Rattle.coordinates.specs.Coordinates.{finiteBits, zeroBits, everyFinite, everyZero, vectorOf, patterns}
 use Rattle.coordinates.specs.Largest.{magnitude, largest, judged}
-use Rattle.coordinates.specs.declared.Vector.{Vector}
-use Rattle.coordinates.specs.declared.Vector.the-variants.{Good, NotFinite, AllZero}
+use Rattle.refusal.specs.Refusal.{Result, refused, passes}
+use Rattle.refusal.specs.declared.Refusal.the-variants.{NotFinite, VectorAllZero}
 
 -- two tests that imply each other
 pub agree : (a b : Bool) → (T a → T b) → (T b → T a) → a ≡ b
@@ -82,10 +82,10 @@ zero-largest m (b ∷ bs) =
 pub judged-largest : (cosine : Bool) (bs : List ℕ) → judged cosine (largest 0 bs) ≡ vectorOf cosine bs
 unfolding vectorOf
 judged-largest cosine bs =
-    ap₂ (λ (f z : Bool). cond f (cond z (cond cosine AllZero Good) Good) NotFinite) (finite-largest 0 bs) (zero-largest 0 bs)
-    ∙ ap (λ (v : Vector). cond (everyFinite bs) v NotFinite) (either cosine (everyZero bs))
+    ap₂ (λ (f z : Bool). cond f (cond z (cond cosine (refused VectorAllZero) passes) passes) (refused NotFinite)) (finite-largest 0 bs) (zero-largest 0 bs)
+    ∙ ap (λ (v : Result (Unit {0})). cond (everyFinite bs) v (refused NotFinite)) (either cosine (everyZero bs))
   where
-    either : (c z : Bool) → cond z (cond c AllZero Good) Good ≡ cond (c && z) AllZero Good
+    either : (c z : Bool) → cond z (cond c (refused VectorAllZero) passes) passes ≡ cond (c && z) (refused VectorAllZero) passes
     either true true = refl
     either true false = refl
     either false true = refl

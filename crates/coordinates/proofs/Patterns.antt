@@ -13,8 +13,8 @@ use Rattle.fields.specs.Fields.{part, le, num, bytes, Bytes}
 use Rattle.fields.proofs.Parts.{drop-take, part-take, part-drop, part-split}
 use Rattle.fields.proofs.Numbers.{length-bytes, num-bytes, bytes-num, Bytes-nil, Bytes-append, Bytes-bytes, Bytes-drop}
 use Rattle.coordinates.specs.Coordinates.{finiteBits, zeroBits, everyFinite, everyZero, vectorOf, patterns, coordinateBytes}
-use Rattle.coordinates.specs.declared.Vector.{Vector}
-use Rattle.coordinates.specs.declared.Vector.the-variants.{Good, NotFinite, AllZero}
+use Rattle.refusal.specs.Refusal.{Result, refused, passes}
+use Rattle.refusal.specs.declared.Refusal.the-variants.{NotFinite, VectorAllZero}
 
 pub length-patterns : (d : ℕ) (s : List ℕ) → length (patterns d s) ≡ d
 unfolding patterns
@@ -104,27 +104,27 @@ zero-every [] h = refl
 zero-every (b ∷ bs) h = ap₂ _&&_ (h 0 (omega arith)) (zero-every bs (λ k l. h (suc k) (omega arith)))
 
 -- 12 comes first; 13 only under cosine
-pub vector-not-finite : (cosine : Bool) (bs : List ℕ) → everyFinite bs ≡ false → vectorOf cosine bs ≡ NotFinite
+pub vector-not-finite : (cosine : Bool) (bs : List ℕ) → everyFinite bs ≡ false → vectorOf cosine bs ≡ (refused NotFinite)
 unfolding vectorOf
 vector-not-finite cosine bs e = simp e
 
-pub vector-all-zero : (bs : List ℕ) → everyFinite bs ≡ true → everyZero bs ≡ true → vectorOf true bs ≡ AllZero
+pub vector-all-zero : (bs : List ℕ) → everyFinite bs ≡ true → everyZero bs ≡ true → vectorOf true bs ≡ (refused VectorAllZero)
 unfolding vectorOf
 vector-all-zero bs e z = simp (e, z)
 
-pub vector-some : (cosine : Bool) (bs : List ℕ) → everyFinite bs ≡ true → everyZero bs ≡ false → vectorOf cosine bs ≡ Good
+pub vector-some : (cosine : Bool) (bs : List ℕ) → everyFinite bs ≡ true → everyZero bs ≡ false → vectorOf cosine bs ≡ passes
 unfolding vectorOf
 vector-some true bs e z = simp (e, z)
 vector-some false bs e z = simp e
 
-pub vector-plain : (bs : List ℕ) → everyFinite bs ≡ true → vectorOf false bs ≡ Good
+pub vector-plain : (bs : List ℕ) → everyFinite bs ≡ true → vectorOf false bs ≡ passes
 unfolding vectorOf
 vector-plain bs e = simp e
 
-pub vector-good : (cosine : Bool) (bs : List ℕ) → vectorOf cosine bs ≡ Good → everyFinite bs ≡ true
+pub vector-good : (cosine : Bool) (bs : List ℕ) → vectorOf cosine bs ≡ passes → everyFinite bs ≡ true
 unfolding vectorOf
-vector-good cosine bs g = go (everyFinite bs) (cond (cosine && everyZero bs) AllZero Good) g
+vector-good cosine bs g = go (everyFinite bs) (cond (cosine && everyZero bs) (refused VectorAllZero) passes) g
   where
-    go : (f : Bool) (v : Vector) → cond f v NotFinite ≡ Good → f ≡ true
+    go : (f : Bool) (v : Result (Unit {0})) → cond f v (refused NotFinite) ≡ passes → f ≡ true
     go true v g = refl
     go false v g = absurd (let z : _≡_ {A = ℕ} 0 1 = cc in omega arith)

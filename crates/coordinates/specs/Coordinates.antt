@@ -5,8 +5,8 @@ use mathlib.Core.List.{List, [], _∷_, _++_}
 use lib.Dec.{eqb}
 use lib.ListN.{drop}
 use Rattle.fields.specs.Fields.{num, bytes}
-use Rattle.coordinates.specs.declared.Vector.{Vector}
-use Rattle.coordinates.specs.declared.Vector.the-variants.{Good, NotFinite, AllZero}
+use Rattle.refusal.specs.Refusal.{Result, refused, passes}
+use Rattle.refusal.specs.declared.Refusal.the-variants.{NotFinite, VectorAllZero}
 
 -- the exponent's field is not all ones: neither an infinity nor a NaN
 abbrev pub finiteBits : ℕ → Bool
@@ -25,8 +25,8 @@ unfoldable pub everyZero : List ℕ → Bool
 everyZero [] = true
 everyZero (b ∷ bs) = zeroBits b && everyZero bs
 
-unfoldable pub vectorOf : Bool → List ℕ → Vector
-vectorOf cosine bs = cond (everyFinite bs) (cond (cosine && everyZero bs) AllZero Good) NotFinite
+unfoldable pub vectorOf : Bool → List ℕ → Result (Unit {0})
+vectorOf cosine bs = cond (everyFinite bs) (cond (cosine && everyZero bs) (refused VectorAllZero) passes) (refused NotFinite)
 
 -- over bytes: d patterns of 4 bytes each, from the front
 unfoldable pub patterns : ℕ → List ℕ → List ℕ
@@ -38,17 +38,5 @@ unfoldable pub coordinateBytes : List ℕ → List ℕ
 coordinateBytes [] = []
 coordinateBytes (b ∷ bs) = bytes 4 b ++ coordinateBytes bs
 
-abbrev pub allFinite : ℕ → List ℕ → Bool
-allFinite d s = everyFinite (patterns d s)
-
-abbrev pub allZero : ℕ → List ℕ → Bool
-allZero d s = everyZero (patterns d s)
-
-abbrev pub coordinatesOf : Bool → ℕ → List ℕ → Vector
+abbrev pub coordinatesOf : Bool → ℕ → List ℕ → Result (Unit {0})
 coordinatesOf cosine d s = vectorOf cosine (patterns d s)
-
--- the number of refusal; 0: none
-abbrev pub vectorNumber : Vector → ℕ
-vectorNumber Good = 0
-vectorNumber NotFinite = 12
-vectorNumber AllZero = 13

@@ -3,8 +3,8 @@ use Prim.Native.Nat.{ℕ, _%_, max}
 use mathlib.Core.Bool.{Bool, cond}
 use mathlib.Core.List.{List, [], _∷_}
 use lib.Dec.{eqb, ltb}
-use Rattle.coordinates.specs.declared.Vector.{Vector}
-use Rattle.coordinates.specs.declared.Vector.the-variants.{Good, NotFinite, AllZero}
+use Rattle.refusal.specs.Refusal.{Result, refused, passes}
+use Rattle.refusal.specs.declared.Refusal.the-variants.{NotFinite, VectorAllZero}
 
 abbrev pub magnitude : ℕ → ℕ
 magnitude b = b % 2147483648
@@ -15,5 +15,5 @@ largest m [] = m
 largest m (b ∷ bs) = largest (max m (magnitude b)) bs
 
 -- 2139095040 is infinity: 255 * 2 ^ 23
-abbrev pub judged : Bool → ℕ → Vector
-judged cosine m = cond (ltb m 2139095040) (cond (eqb m 0) (cond cosine AllZero Good) Good) NotFinite
+abbrev pub judged : Bool → ℕ → Result (Unit {0})
+judged cosine m = cond (ltb m 2139095040) (cond (eqb m 0) (cond cosine (refused VectorAllZero) passes) passes) (refused NotFinite)

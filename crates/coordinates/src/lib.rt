@@ -4,27 +4,24 @@ ghost use mathlib.Core.Path.{_≡_};
 ghost use Prim.Native.Nat.{_+_, _*_, _≤_, max};
 ghost use lib.ListN.{length};
 ghost use Rattle.fields.specs.Fields.{part};
+ghost use Rattle.refusal.specs.Refusal.{checked};
 ghost use Rattle.coordinates.specs.Coordinates.{vectorOf, coordinatesOf, patterns};
 ghost use Rattle.coordinates.specs.Largest.{largest, judged};
-
-pub enum Vector {
-    Good,
-    NotFinite,
-    AllZero,
-}
+use refusal::Checked;
+use refusal::Refusal;
 
 // Internal: the caller knows the room, since a vector that runs past the end is refusal 11 in a snapshot and 4 in a log.
 // The d coordinates of 4 bytes each from `at` on.
-pub fn check_coordinates(s: &[u8], at: usize, d: usize, cosine: bool) -> Vector
+pub fn check_coordinates(s: &[u8], at: usize, d: usize, cosine: bool) -> Checked
     requires { ⌜ at + 4 * d ≤ length (now s) ⌝ }
-    ensures { λ r. ⌜ r ≡ coordinatesOf cosine d (part (now (s .entry)) at (4 * d)) ⌝ }
+    ensures { λ r. ⌜ r ≡ checked (coordinatesOf cosine d (part (now (s .entry)) at (4 * d))) ⌝ }
 {
     judge(largest_at(s, at, d), cosine)
 }
 
 // The same of coordinates that are lent as bit patterns.
-pub fn check_bits(c: &[u32], cosine: bool) -> Vector
-    ensures { λ r. ⌜ r ≡ vectorOf cosine (now (c .entry)) ⌝ }
+pub fn check_bits(c: &[u32], cosine: bool) -> Checked
+    ensures { λ r. ⌜ r ≡ checked (vectorOf cosine (now (c .entry))) ⌝ }
 {
     judge(largest_of(c), cosine)
 }
@@ -62,17 +59,17 @@ fn larger(a: u32, b: u32) -> u32
     if a < b { b } else { a }
 }
 
-fn judge(most: u32, cosine: bool) -> Vector
-    ensures { λ r. ⌜ r ≡ judged cosine most ⌝ }
+fn judge(most: u32, cosine: bool) -> Checked
+    ensures { λ r. ⌜ r ≡ checked (judged cosine most) ⌝ }
 {
     if 2139095040 <= most {
-        return Vector::NotFinite;
+        return Checked::Refused(Refusal::NotFinite);
     }
     if 0 < most {
-        return Vector::Good;
+        return Checked::Passed;
     }
     if cosine {
-        return Vector::AllZero;
+        return Checked::Refused(Refusal::VectorAllZero);
     }
-    Vector::Good
+    Checked::Passed
 }

@@ -1,7 +1,4 @@
-pub mod CheckLaws
-pub mod WrittenLaws
-pub mod RequestLaws
 pub mod CoordinateLaws
-pub mod WriteLaws
-pub mod AnswerLaws
-pub mod PayloadLaws
+pub mod OperationLaws
+pub mod RunLaws
+pub mod RequestLaws

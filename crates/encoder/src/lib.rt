@@ -1,151 +1,225 @@
 // Frames and batches, written. Every test comes before the first store, since a refused call changes no byte; then each operation
-// is written into the rest of the lent output. The definitions are those of `meaning`; specs/Told.antt says how an answer tells
-// them, specs/Steps.antt parts them where the code is parted.
+// is written into the rest of the lent output. The definitions are those of `meaning`, whose parts are the code's;
+// specs/Requests.antt says what an operation is written as.
 // Coordinates come as the bits of their f32: a NaN that is made an f32 need not keep its bits.
 ghost use mathlib.Core.Path.{_≡_};
-ghost use mathlib.Core.List.{_∷_, _++_};
-ghost use Prim.Native.Nat.{ℕ, _+_, _*_, _/_, _≤_};
-ghost use lib.ListN.{length, drop};
-ghost use Rattle.fields.specs.Fields.{bytes};
+ghost use mathlib.Core.Bool.{true};
+ghost use mathlib.Core.List.{_∷_};
+ghost use Prim.Native.Nat.{suc, _+_, _*_, _/_, _≤_};
+ghost use lib.ListN.{length};
 ghost use Rattle.coordinates.specs.Coordinates.{coordinateBytes};
-ghost use Rattle.meaning.specs.Item.{isCosine};
-ghost use Rattle.meaning.specs.Encoder.{asked, putCount, encodePut, encodeDelete, encodeAll, taggedBytes, payloadBytes, single, batch, encode};
-ghost use Rattle.meaning.specs.Refusal.{answer};
-ghost use Rattle.config.specs.Settings.{validityOf};
-ghost use Rattle.frames.specs.Front.{Front};
+ghost use Rattle.config.specs.Limits.{maxDimensions, maxMetadata, maxBatchOperations};
+ghost use Rattle.layout.specs.Layout.{itemLength};
+ghost use Rattle.fields.specs.Placed.{placed};
+ghost use Rattle.rows.specs.Rows.{OperationFits, operationOf};
+ghost use Rattle.refusal.specs.Refusal.{passes, checked, sizeTold, writtenTold};
+ghost use Rattle.meaning.specs.Encoder.{asked, putCount, putFields, putFor, encodeOperation as encodeOne, encodeAll, taggedBytes, payloadBytes, wordsChecked, encodeOperations, encodeValid};
 ghost use Rattle.meaning.specs.Calls.{outputAfter, encodeCall};
-ghost use Rattle.encoder.specs.Told.{told, shapeIs, countTold, operationTold, operationsTold, lengthOf};
-ghost use Rattle.encoder.specs.Steps.{wordsChecked, requestChecked, captionTold, roomTold, headLength, putFields, writtenAll, Writable};
+ghost use Rattle.encoder.specs.Requests.{taken as takenBy, tagOf, fieldsOf, taggedLength, captionTold, Fits, headLength, taggedOf, Accepted};
 use config::Config;
-use config::Metric;
-use config::Validity;
-use coordinates::Vector;
-use rows::Id;
+use layout::Shape;
+use refusal::Checked;
+use refusal::Measured;
+use refusal::Refusal;
+use refusal::Written;
 use rows::Operation;
 
-// How many bytes stand at the output's front, or document 01's number of refusal.
-pub enum Encoded {
-    Bytes(usize),
-    Refused(u32),
-}
-
-// The length of what the operations are written as, or document 01's number of refusal.
-enum Checked {
-    Length(usize),
-    Refused(u32),
-}
-
-// Whether a request has as many words as its shape asks for, or document 01's number of refusal.
-enum Counted {
-    Good,
-    Refused(u32),
-}
-
-// 15.
-fn check_caption(caption: &[u8], d: usize) -> Checked
-    requires { ⌜ length (now caption) ≤ 16384 ⌝ }
-    requires { ⌜ d ≤ 4096 ⌝ }
-    ensures { λ r. ⌜ r ≡ captionTold d (now (caption .entry)) ⌝ }
-    ensures { λ r. ⌜ lengthOf r ≤ 32781 ⌝ }
-{
-    if !utf8::is_utf8(caption) {
-        return Checked::Refused(15);
-    }
-    Checked::Length(13 + 4 * d + caption.len())
-}
-
-fn is_cosine(metric: Metric) -> bool
-    ensures { λ r. ⌜ r ≡ isCosine metric ⌝ }
-{
-    match metric {
-        Metric::SquaredL2 => false,
-        Metric::Cosine => true,
-        Metric::InnerProduct => false,
-    }
-}
-
-// 14, 33, 12, 13, 15.
-fn check_put(config: Config, coordinates: &[u32], captions: &[u8], id: u64, word: u64) -> Checked
-    requires { ⌜ length (now coordinates) ≡ config .dimensions ⌝ }
-    requires { ⌜ config .dimensions ≤ 4096 ⌝ }
-    ensures { λ r. ⌜ r ≡ operationTold (encodePut config (now (coordinates .entry)) (now (captions .entry)) (record { id = id; word = word })) ⌝ }
-    ensures { λ r. ⌜ lengthOf r ≤ 32781 ⌝ }
-{
-    let o = Operation::unpack(Id(id), word);
-    let n = o.caption;
-    let start = o.at;
-    if Config::MAX_METADATA < n {
-        return Checked::Refused(14);
-    }
-    let end = start + n;
-    if captions.len() < end {
-        return Checked::Refused(33);
-    }
-    let metric = config.metric;
-    match coordinates::check_bits(coordinates, is_cosine(metric)) {
-        Vector::Good => check_caption(&captions[start..end], coordinates.len()),
-        Vector::NotFinite => Checked::Refused(12),
-        Vector::AllZero => Checked::Refused(13),
-    }
-}
-
-// 33.
-fn check_delete(id: u64, word: u64) -> Checked
-    ensures { λ r. ⌜ r ≡ operationTold (encodeDelete (record { id = id; word = word })) ⌝ }
-    ensures { λ r. ⌜ lengthOf r ≤ 32781 ⌝ }
-{
-    if word != 0 {
-        return Checked::Refused(33);
-    }
-    Checked::Length(9)
-}
-
-fn check_operations(
+// One operation in a frame of its own.
+pub fn encode_frame(
     config: Config,
+    sequence: u64,
     operations: &[u64],
     coordinates: &[u32],
     captions: &[u8],
-) -> Checked
-    requires { ⌜ config .dimensions ≤ 4096 ⌝ }
-    requires { ⌜ length (now operations) / 2 ≤ 1024 ⌝ }
-    requires { ⌜ length (now coordinates) ≡ config .dimensions * putCount (asked (now operations)) ⌝ }
-    ensures { λ r. ⌜ r ≡ operationsTold 0 (encodeAll config (now (coordinates .entry)) (now (captions .entry)) (asked (now (operations .entry)))) ⌝ }
-    ensures { λ r. ⌜ lengthOf r ≤ 33567744 ⌝ }
+    out: &mut [u8],
+) -> Written
+    ensures { λ r. ⌜ r ≡ writtenTold (encodeCall Shape.Single config sequence (now (operations .entry)) (now (coordinates .entry)) (now (captions .entry)) (now (out .entry))) ⌝ }
+    ensures { λ _. ⌜ now (out .exit) ≡ outputAfter (now (out .entry)) (encodeCall Shape.Single config sequence (now (operations .entry)) (now (coordinates .entry)) (now (captions .entry)) (now (out .entry))) ⌝ }
+{
+    encode(
+        Shape::Single,
+        config,
+        sequence,
+        operations,
+        coordinates,
+        captions,
+        out,
+    )
+}
+
+pub fn encode_batch(
+    config: Config,
+    sequence: u64,
+    operations: &[u64],
+    coordinates: &[u32],
+    captions: &[u8],
+    out: &mut [u8],
+) -> Written
+    ensures { λ r. ⌜ r ≡ writtenTold (encodeCall Shape.Batch config sequence (now (operations .entry)) (now (coordinates .entry)) (now (captions .entry)) (now (out .entry))) ⌝ }
+    ensures { λ _. ⌜ now (out .exit) ≡ outputAfter (now (out .entry)) (encodeCall Shape.Batch config sequence (now (operations .entry)) (now (coordinates .entry)) (now (captions .entry)) (now (out .entry))) ⌝ }
+{
+    encode(
+        Shape::Batch,
+        config,
+        sequence,
+        operations,
+        coordinates,
+        captions,
+        out,
+    )
+}
+
+// ---- the tests of a request, in document 01's order
+fn encode(
+    shape: Shape,
+    config: Config,
+    sequence: u64,
+    operations: &[u64],
+    coordinates: &[u32],
+    captions: &[u8],
+    out: &mut [u8],
+) -> Written
+    ensures { λ r. ⌜ r ≡ writtenTold (encodeCall shape config sequence (now (operations .entry)) (now (coordinates .entry)) (now (captions .entry)) (now (out .entry))) ⌝ }
+    ensures { λ _. ⌜ now (out .exit) ≡ outputAfter (now (out .entry)) (encodeCall shape config sequence (now (operations .entry)) (now (coordinates .entry)) (now (captions .entry)) (now (out .entry))) ⌝ }
+{
+    match config.validate() {
+        Checked::Passed => encode_valid(
+            shape,
+            config,
+            sequence,
+            operations,
+            coordinates,
+            captions,
+            out,
+        ),
+        Checked::Refused(r) => Written::Refused(r),
+    }
+}
+
+// 24, 25, 33.
+fn encode_valid(
+    shape: Shape,
+    config: Config,
+    sequence: u64,
+    operations: &[u64],
+    coordinates: &[u32],
+    captions: &[u8],
+    out: &mut [u8],
+) -> Written
+    requires { ⌜ config .dimensions ≤ maxDimensions ⌝ }
+    ensures { λ r. ⌜ r ≡ writtenTold (encodeValid shape config sequence (now (operations .entry)) (now (coordinates .entry)) (now (captions .entry)) (length (now (out .entry)))) ⌝ }
+    ensures { λ _. ⌜ now (out .exit) ≡ outputAfter (now (out .entry)) (encodeValid shape config sequence (now (operations .entry)) (now (coordinates .entry)) (now (captions .entry)) (length (now (out .entry)))) ⌝ }
+{
+    if sequence == 0 {
+        return Written::Refused(Refusal::WrongSequence);
+    }
+    match check_words(shape, operations.len()) {
+        Checked::Passed => encode_operations(
+            shape,
+            config,
+            sequence,
+            operations,
+            coordinates,
+            captions,
+            out,
+        ),
+        Checked::Refused(r) => Written::Refused(r),
+    }
+}
+
+// 33, what the operations refuse, 22, 32; then the payload, and the seal around it.
+fn encode_operations(
+    shape: Shape,
+    config: Config,
+    sequence: u64,
+    operations: &[u64],
+    coordinates: &[u32],
+    captions: &[u8],
+    out: &mut [u8],
+) -> Written
+    requires { ⌜ config .dimensions ≤ maxDimensions ⌝ }
+    requires { ⌜ wordsChecked shape (length (now operations)) ≡ passes ⌝ }
+    ensures { λ r. ⌜ r ≡ writtenTold (encodeOperations shape config sequence (now (operations .entry)) (now (coordinates .entry)) (now (captions .entry)) (length (now (out .entry)))) ⌝ }
+    ensures { λ _. ⌜ now (out .exit) ≡ outputAfter (now (out .entry)) (encodeOperations shape config sequence (now (operations .entry)) (now (coordinates .entry)) (now (captions .entry)) (length (now (out .entry)))) ⌝ }
 {
     let d = config.dimensions;
-    let n = operations.len() / 2;
-    let mut sum: usize = 0;
-    let mut at: usize = 0;
-    let mut k: usize = 0;
-    while k < n {
-        let id = operations[2 * k];
-        let word = operations[2 * k + 1];
-        let o = Operation::unpack(Id(id), word);
-        k += 1;
-        let put = o.put;
-        if put {
-            let end = at + d;
-            match check_put(config, &coordinates[at..end], captions, id, word) {
-                Checked::Length(m) => {
-                    sum += m;
-                    at = end;
-                }
-                Checked::Refused(r) => {
-                    return Checked::Refused(r);
-                }
-            }
-        } else {
-            match check_delete(id, word) {
-                Checked::Length(m) => {
-                    sum += m;
-                }
-                Checked::Refused(r) => {
-                    return Checked::Refused(r);
-                }
-            }
-        }
+    let puts = put_count(operations);
+    if coordinates.len() != d * puts {
+        return Written::Refused(Refusal::RequestMalformed);
     }
-    Checked::Length(sum)
+    let n = match check_operations(config, operations, coordinates, captions) {
+        Measured::Length(n) => n,
+        Measured::Refused(r) => {
+            return Written::Refused(r);
+        }
+    };
+    let before = head(shape);
+    if Config::MAX_FRAME - before < n {
+        return Written::Refused(Refusal::WrongLength);
+    }
+    let payload = before + n;
+    if out.len() < payload + layout::FRAME_AROUND {
+        return Written::Refused(Refusal::OutputTooShort);
+    }
+    write_payload(
+        &mut out[layout::FRAME_HEAD..],
+        shape,
+        config,
+        sequence,
+        operations,
+        coordinates,
+        captions,
+    );
+    frames::seal(out, payload);
+    Written::Bytes(payload + layout::FRAME_AROUND)
+}
+
+// 25, then 33.
+fn check_words(shape: Shape, words: usize) -> Checked
+    ensures { λ r. ⌜ r ≡ checked (wordsChecked shape words) ⌝ }
+{
+    match shape {
+        Shape::Single => check_single(words),
+        Shape::Batch => check_batch(words),
+    }
+}
+
+// A single frame has one operation.
+fn check_single(words: usize) -> Checked
+    ensures { λ r. ⌜ r ≡ checked (wordsChecked Shape.Single words) ⌝ }
+{
+    if words % 2 != 0 {
+        return Checked::Refused(Refusal::RequestMalformed);
+    }
+    if words / 2 != 1 {
+        return Checked::Refused(Refusal::RequestMalformed);
+    }
+    Checked::Passed
+}
+
+fn check_batch(words: usize) -> Checked
+    ensures { λ r. ⌜ r ≡ checked (wordsChecked Shape.Batch words) ⌝ }
+{
+    let n = words / 2;
+    if n < 1 {
+        return Checked::Refused(Refusal::WrongBatchCount);
+    }
+    if Config::MAX_BATCH_OPERATIONS < n {
+        return Checked::Refused(Refusal::WrongBatchCount);
+    }
+    if words % 2 != 0 {
+        return Checked::Refused(Refusal::RequestMalformed);
+    }
+    Checked::Passed
+}
+
+fn head(shape: Shape) -> usize
+    ensures { λ r. ⌜ (r ≡ headLength shape) × (r ≤ 13) ⌝ }
+{
+    match shape {
+        Shape::Single => 8,
+        Shape::Batch => 13,
+    }
 }
 
 fn put_count(operations: &[u64]) -> usize
@@ -157,162 +231,262 @@ fn put_count(operations: &[u64]) -> usize
     let mut k: usize = 0;
     while k < n {
         let o = rows::operation_at(operations, k);
-        k += 1;
         let put = o.put;
-        if put {
-            count += 1;
-        }
+        count += taken(put, 1);
+        k += 1;
     }
     count
 }
 
-// 25, then 33.
-fn count_batch(words: usize) -> Counted
-    ensures { λ r. ⌜ r ≡ countTold (wordsChecked batch words) ⌝ }
+fn taken(put: bool, n: usize) -> usize
+    ensures { λ r. ⌜ (r ≡ takenBy put n) × (r ≤ n) ⌝ }
 {
-    let n = words / 2;
-    if n < 1 {
-        return Counted::Refused(25);
-    }
-    if Config::MAX_BATCH_OPERATIONS < n {
-        return Counted::Refused(25);
-    }
-    if words % 2 != 0 {
-        return Counted::Refused(33);
-    }
-    Counted::Good
+    if put { n } else { 0 }
 }
 
-// 33. A single frame has one operation.
-fn count_single(words: usize) -> Counted
-    ensures { λ r. ⌜ r ≡ countTold (wordsChecked single words) ⌝ }
-{
-    if words % 2 != 0 {
-        return Counted::Refused(33);
-    }
-    if words / 2 != 1 {
-        return Counted::Refused(33);
-    }
-    Counted::Good
-}
-
-fn check_count(batch: bool, words: usize) -> Counted
-    ensures { λ r. ⌜ r ≡ countTold (wordsChecked (shapeIs batch) words) ⌝ }
-{
-    if batch {
-        return count_batch(words);
-    }
-    count_single(words)
-}
-
-// 22, 32.
-fn check_room(payload: usize, room: usize) -> Encoded
-    requires { ⌜ payload ≤ 33567757 ⌝ }
-    ensures { λ r. ⌜ r ≡ roomTold payload room ⌝ }
-{
-    if Config::MAX_FRAME < payload {
-        return Encoded::Refused(22);
-    }
-    if room < payload + 12 {
-        return Encoded::Refused(32);
-    }
-    Encoded::Bytes(payload + 12)
-}
-
-// What stands in a payload beside its tagged operations: opcode, sequence and count, or in a single frame the sequence.
-fn head(batch: bool) -> usize
-    ensures { λ r. ⌜ r ≡ headLength (shapeIs batch) ⌝ }
-{
-    if batch { 13 } else { 8 }
-}
-
-// From the coordinates' count on. What is answered is the same for every sequence.
-fn check_request(
-    batch: bool,
+// ---- the tests of the operations: how many bytes they are written as
+fn check_operations(
     config: Config,
     operations: &[u64],
     coordinates: &[u32],
     captions: &[u8],
-    room: usize,
-) -> Encoded
-    requires { ⌜ config .dimensions ≤ 4096 ⌝ }
-    requires { ⌜ wordsChecked (shapeIs batch) (length (now operations)) ≡ answer tt ⌝ }
-    ensures { λ r. ⌜ ((sequence : ℕ) → r ≡ told (requestChecked (shapeIs batch) config sequence (now (operations .entry)) (now (coordinates .entry)) (now (captions .entry)) room)) ⌝ }
+) -> Measured
+    requires { ⌜ config .dimensions ≤ maxDimensions ⌝ }
+    requires { ⌜ length (now operations) / 2 ≤ maxBatchOperations ⌝ }
+    requires { ⌜ length (now coordinates) ≡ config .dimensions * putCount (asked (now operations)) ⌝ }
+    ensures { λ r. ⌜ r ≡ sizeTold (λ es. length (taggedBytes es)) (encodeAll config (now (coordinates .entry)) (now (captions .entry)) (asked (now (operations .entry)))) ⌝ }
 {
     let d = config.dimensions;
-    let puts = put_count(operations);
-    if coordinates.len() != d * puts {
-        return Encoded::Refused(33);
+    let n = operations.len() / 2;
+    let mut sum: usize = 0;
+    let mut at: usize = 0;
+    let mut k: usize = 0;
+    while k < n {
+        let o = rows::operation_at(operations, k);
+        let word = operations[2 * k + 1];
+        let m = match check_operation(config, o, word, &coordinates[at..], captions) {
+            Measured::Length(m) => m,
+            Measured::Refused(r) => {
+                return Measured::Refused(r);
+            }
+        };
+        let put = o.put;
+        sum += m;
+        at += taken(put, d);
+        k += 1;
     }
-    match check_operations(config, operations, coordinates, captions) {
-        Checked::Length(n) => check_room(head(batch) + n, room),
-        Checked::Refused(r) => Encoded::Refused(r),
+    Measured::Length(sum)
+}
+
+// A delete's 33, or what a put refuses.
+fn check_operation(
+    config: Config,
+    o: Operation,
+    word: u64,
+    coordinates: &[u32],
+    captions: &[u8],
+) -> Measured
+    requires { ⌜ config .dimensions ≤ maxDimensions ⌝ }
+    requires { ⌜ o ≡ operationOf (o .id .0) word ⌝ }
+    requires { ⌜ (o .put ≡ true → config .dimensions ≤ length (now coordinates)) ⌝ }
+    ensures { λ r. ⌜ r ≡ sizeTold taggedLength (encodeOne config (now (coordinates .entry)) (now (captions .entry)) (record { id = o .id .0; word = word })) ⌝ }
+{
+    let put = o.put;
+    if put {
+        let d = config.dimensions;
+        return check_put(config, o, &coordinates[..d], captions);
+    }
+    if word != 0 {
+        return Measured::Refused(Refusal::RequestMalformed);
+    }
+    Measured::Length(9)
+}
+
+// 14, 33, 12, 13, 15.
+fn check_put(config: Config, o: Operation, coordinates: &[u32], captions: &[u8]) -> Measured
+    requires { ⌜ OperationFits o ⌝ }
+    requires { ⌜ length (now coordinates) ≡ config .dimensions ⌝ }
+    requires { ⌜ config .dimensions ≤ maxDimensions ⌝ }
+    ensures { λ r. ⌜ r ≡ sizeTold taggedLength (putFor config (now (coordinates .entry)) (now (captions .entry)) (o .id .0) (o .«caption_length») (o .at)) ⌝ }
+{
+    let n = o.caption_length;
+    let start = o.at;
+    if config.caption_limit() < n {
+        return Measured::Refused(Refusal::CaptionTooLong);
+    }
+    let end = start + n;
+    if captions.len() < end {
+        return Measured::Refused(Refusal::RequestMalformed);
+    }
+    let metric = config.metric;
+    match coordinates::check_bits(coordinates, metric.is_cosine()) {
+        Checked::Passed => check_caption(&captions[start..end], coordinates.len()),
+        Checked::Refused(r) => Measured::Refused(r),
     }
 }
 
-// Every test, in document 01's order.
-fn check(
-    batch: bool,
+fn check_caption(caption: &[u8], d: usize) -> Measured
+    requires { ⌜ length (now caption) ≤ maxMetadata ⌝ }
+    requires { ⌜ d ≤ maxDimensions ⌝ }
+    ensures { λ r. ⌜ r ≡ captionTold d (now (caption .entry)) ⌝ }
+{
+    if !utf8::is_utf8(caption) {
+        return Measured::Refused(Refusal::NotUtf8);
+    }
+    Measured::Length(layout::record_length(d, caption.len()))
+}
+
+// ---- what is written once nothing is refused
+fn write_payload(
+    out: &mut [u8],
+    shape: Shape,
     config: Config,
     sequence: u64,
     operations: &[u64],
     coordinates: &[u32],
     captions: &[u8],
-    room: usize,
-) -> Encoded
-    ensures { λ r. ⌜ r ≡ told (encode (shapeIs batch) config sequence (now (operations .entry)) (now (coordinates .entry)) (now (captions .entry)) room) ⌝ }
+)
+    requires { ⌜ Accepted config (now operations) (now coordinates) (now captions) ⌝ }
+    requires { ⌜ wordsChecked shape (length (now operations)) ≡ passes ⌝ }
+    requires { ⌜ length (payloadBytes shape sequence (taggedOf config (now operations) (now coordinates) (now captions))) ≤ length (now out) ⌝ }
+    ensures { λ _. ⌜ now (out .exit) ≡ placed 0 (payloadBytes shape sequence (taggedOf config (now (operations .entry)) (now (coordinates .entry)) (now (captions .entry)))) (now (out .entry)) ⌝ }
 {
-    match config.validate() {
-        Validity::Valid => check_valid(
-            batch,
-            config,
-            sequence,
-            operations,
-            coordinates,
-            captions,
-            room,
-        ),
-        Validity::Refused(r) => Encoded::Refused(r),
+    match shape {
+        Shape::Single => write_single(out, config, sequence, operations, coordinates, captions),
+        Shape::Batch => write_batch(out, config, sequence, operations, coordinates, captions),
     }
 }
 
-fn check_valid(
-    batch: bool,
+fn write_single(
+    out: &mut [u8],
     config: Config,
     sequence: u64,
     operations: &[u64],
     coordinates: &[u32],
     captions: &[u8],
-    room: usize,
-) -> Encoded
-    requires { ⌜ validityOf config ≡ Validity.Valid ⌝ }
-    ensures { λ r. ⌜ r ≡ told (encode (shapeIs batch) config sequence (now (operations .entry)) (now (coordinates .entry)) (now (captions .entry)) room) ⌝ }
+)
+    requires { ⌜ Accepted config (now operations) (now coordinates) (now captions) ⌝ }
+    requires { ⌜ length (now operations) ≡ 2 ⌝ }
+    requires { ⌜ length (payloadBytes Shape.Single sequence (taggedOf config (now operations) (now coordinates) (now captions))) ≤ length (now out) ⌝ }
+    ensures { λ _. ⌜ now (out .exit) ≡ placed 0 (payloadBytes Shape.Single sequence (taggedOf config (now (operations .entry)) (now (coordinates .entry)) (now (captions .entry)))) (now (out .entry)) ⌝ }
 {
-    if sequence == 0 {
-        return Encoded::Refused(24);
-    }
-    match check_count(batch, operations.len()) {
-        Counted::Good => check_request(batch, config, operations, coordinates, captions, room),
-        Counted::Refused(r) => Encoded::Refused(r),
+    let o = rows::operation_at(operations, 0);
+    let put = o.put;
+    frames::write_opcode(out, tag(put), sequence);
+    write_fields(
+        &mut out[layout::OPCODE_AND_SEQUENCE..],
+        config,
+        o,
+        coordinates,
+        captions,
+    );
+}
+
+fn write_batch(
+    out: &mut [u8],
+    config: Config,
+    sequence: u64,
+    operations: &[u64],
+    coordinates: &[u32],
+    captions: &[u8],
+)
+    requires { ⌜ Accepted config (now operations) (now coordinates) (now captions) ⌝ }
+    requires { ⌜ length (now operations) / 2 ≤ maxBatchOperations ⌝ }
+    requires { ⌜ length (payloadBytes Shape.Batch sequence (taggedOf config (now operations) (now coordinates) (now captions))) ≤ length (now out) ⌝ }
+    ensures { λ _. ⌜ now (out .exit) ≡ placed 0 (payloadBytes Shape.Batch sequence (taggedOf config (now (operations .entry)) (now (coordinates .entry)) (now (captions .entry)))) (now (out .entry)) ⌝ }
+{
+    frames::write_opcode(out, 3, sequence);
+    fields::put_u32(
+        out,
+        layout::OPCODE_AND_SEQUENCE,
+        (operations.len() / 2) as u32,
+    );
+    write_operations(&mut out[13..], config, operations, coordinates, captions);
+}
+
+fn write_operations(
+    out: &mut [u8],
+    config: Config,
+    operations: &[u64],
+    coordinates: &[u32],
+    captions: &[u8],
+)
+    requires { ⌜ Accepted config (now operations) (now coordinates) (now captions) ⌝ }
+    requires { ⌜ length (taggedBytes (taggedOf config (now operations) (now coordinates) (now captions))) ≤ length (now out) ⌝ }
+    ensures { λ _. ⌜ now (out .exit) ≡ placed 0 (taggedBytes (taggedOf config (now (operations .entry)) (now (coordinates .entry)) (now (captions .entry)))) (now (out .entry)) ⌝ }
+{
+    let d = config.dimensions;
+    let n = operations.len() / 2;
+    let mut at: usize = 0;
+    let mut from: usize = 0;
+    let mut k: usize = 0;
+    while k < n {
+        let o = rows::operation_at(operations, k);
+        at += write_operation(&mut out[at..], config, o, &coordinates[from..], captions);
+        let put = o.put;
+        from += taken(put, d);
+        k += 1;
     }
 }
 
-fn write_coordinates(out: &mut [u8], coordinates: &[u32])
-    requires { ⌜ 4 * length (now coordinates) ≤ length (now out) ⌝ }
-    ensures { λ _. ⌜ Front (now (out .entry)) (coordinateBytes (now (coordinates .entry))) (now (out .exit)) ⌝ }
+// An operation of a batch: its tag, then its fields. The answer is how many bytes.
+fn write_operation(
+    out: &mut [u8],
+    config: Config,
+    o: Operation,
+    coordinates: &[u32],
+    captions: &[u8],
+) -> usize
+    requires { ⌜ config .dimensions ≤ maxDimensions ⌝ }
+    requires { ⌜ Fits (config .dimensions) (now coordinates) (now captions) o ⌝ }
+    requires { ⌜ suc (length (fieldsOf (config .dimensions) (now coordinates) (now captions) o)) ≤ length (now out) ⌝ }
+    ensures { λ r. ⌜ r ≡ suc (length (fieldsOf (config .dimensions) (now (coordinates .entry)) (now (captions .entry)) o)) ⌝ }
+    ensures { λ _. ⌜ now (out .exit) ≡ placed 0 (tagOf (o .put) ∷ fieldsOf (config .dimensions) (now (coordinates .entry)) (now (captions .entry)) o) (now (out .entry)) ⌝ }
 {
-    let mut i: usize = 0;
-    while i < coordinates.len() {
-        fields::put_u32(out, 4 * i, coordinates[i]);
-        i += 1;
+    let put = o.put;
+    fields::put_u8(out, 0, tag(put));
+    1 + write_fields(&mut out[1..], config, o, coordinates, captions)
+}
+
+fn tag(put: bool) -> u8
+    ensures { λ r. ⌜ r ≡ tagOf put ⌝ }
+{
+    if put { 1 } else { 2 }
+}
+
+// The fields of a put or a delete. The answer is how many bytes.
+fn write_fields(
+    out: &mut [u8],
+    config: Config,
+    o: Operation,
+    coordinates: &[u32],
+    captions: &[u8],
+) -> usize
+    requires { ⌜ config .dimensions ≤ maxDimensions ⌝ }
+    requires { ⌜ Fits (config .dimensions) (now coordinates) (now captions) o ⌝ }
+    requires { ⌜ length (fieldsOf (config .dimensions) (now coordinates) (now captions) o) ≤ length (now out) ⌝ }
+    ensures { λ r. ⌜ r ≡ length (fieldsOf (config .dimensions) (now (coordinates .entry)) (now (captions .entry)) o) ⌝ }
+    ensures { λ _. ⌜ now (out .exit) ≡ placed 0 (fieldsOf (config .dimensions) (now (coordinates .entry)) (now (captions .entry)) o) (now (out .entry)) ⌝ }
+{
+    let id = o.id;
+    let put = o.put;
+    if put {
+        let d = config.dimensions;
+        let n = o.caption_length;
+        let start = o.at;
+        let stop = start + n;
+        write_put(out, id.0, &coordinates[..d], &captions[start..stop]);
+        return 8 + layout::item_length(d, n);
     }
+    fields::put_u64(out, 0, id.0);
+    8
 }
 
 // ID, coordinates, caption length, caption.
-fn write_fields(out: &mut [u8], id: u64, coordinates: &[u32], caption: &[u8])
-    requires { ⌜ length (now caption) ≤ 32767 ⌝ }
-    requires { ⌜ 12 + 4 * length (now coordinates) + length (now caption) ≤ length (now out) ⌝ }
-    ensures { λ _. ⌜ Front (now (out .entry)) (putFields id (now (coordinates .entry)) (now (caption .entry))) (now (out .exit)) ⌝ }
+fn write_put(out: &mut [u8], id: u64, coordinates: &[u32], caption: &[u8])
+    requires { ⌜ length (now caption) ≤ maxMetadata ⌝ }
+    requires { ⌜ 8 + itemLength (length (now coordinates)) (length (now caption)) ≤ length (now out) ⌝ }
+    ensures { λ _. ⌜ now (out .exit) ≡ placed 0 (putFields id (now (coordinates .entry)) (length (now (caption .entry))) (now (caption .entry))) (now (out .entry)) ⌝ }
 {
     fields::put_u64(out, 0, id);
     write_coordinates(&mut out[8..], coordinates);
@@ -322,181 +496,13 @@ fn write_fields(out: &mut [u8], id: u64, coordinates: &[u32], caption: &[u8])
     fields::copy(&mut out[rest..], caption);
 }
 
-// An operation of a batch: its tag, then its fields. The answer is how many bytes.
-fn write_put(out: &mut [u8], id: u64, coordinates: &[u32], caption: &[u8]) -> usize
-    requires { ⌜ length (now caption) ≤ 32767 ⌝ }
-    requires { ⌜ 13 + 4 * length (now coordinates) + length (now caption) ≤ length (now out) ⌝ }
-    ensures { λ r. ⌜ r ≡ 13 + 4 * length (now (coordinates .entry)) + length (now (caption .entry)) ⌝ }
-    ensures { λ _. ⌜ Front (now (out .entry)) (1 ∷ putFields id (now (coordinates .entry)) (now (caption .entry))) (now (out .exit)) ⌝ }
+fn write_coordinates(out: &mut [u8], coordinates: &[u32])
+    requires { ⌜ 4 * length (now coordinates) ≤ length (now out) ⌝ }
+    ensures { λ _. ⌜ now (out .exit) ≡ placed 0 (coordinateBytes (now (coordinates .entry))) (now (out .entry)) ⌝ }
 {
-    fields::put_u8(out, 0, 1);
-    write_fields(&mut out[1..], id, coordinates, caption);
-    13 + 4 * coordinates.len() + caption.len()
-}
-
-fn write_delete(out: &mut [u8], id: u64) -> usize
-    requires { ⌜ 9 ≤ length (now out) ⌝ }
-    ensures { λ r. ⌜ r ≡ 9 ⌝ }
-    ensures { λ _. ⌜ Front (now (out .entry)) (2 ∷ bytes 8 id) (now (out .exit)) ⌝ }
-{
-    out[0] = 2;
-    fields::put_u64(out, 1, id);
-    9
-}
-
-fn write_operations(
-    out: &mut [u8],
-    d: usize,
-    operations: &[u64],
-    coordinates: &[u32],
-    captions: &[u8],
-)
-    requires { ⌜ Writable d (now operations) (now coordinates) (now captions) ⌝ }
-    requires { ⌜ length (taggedBytes (writtenAll d (now coordinates) (now captions) (asked (now operations)))) ≤ length (now out) ⌝ }
-    ensures { λ _. ⌜ Front (now (out .entry)) (taggedBytes (writtenAll d (now (coordinates .entry)) (now (captions .entry)) (asked (now (operations .entry))))) (now (out .exit)) ⌝ }
-{
-    let n = operations.len() / 2;
-    let mut at: usize = 0;
-    let mut from: usize = 0;
-    let mut k: usize = 0;
-    while k < n {
-        let o = rows::operation_at(operations, k);
-        let id = o.id;
-        k += 1;
-        let put = o.put;
-        if put {
-            let end = from + d;
-            let start = o.at;
-            let stop = start + o.caption;
-            at += write_put(
-                &mut out[at..],
-                id.0,
-                &coordinates[from..end],
-                &captions[start..stop],
-            );
-            from = end;
-        } else {
-            at += write_delete(&mut out[at..], id.0);
-        }
+    let mut i: usize = 0;
+    while i < coordinates.len() {
+        fields::put_u32(out, 4 * i, coordinates[i]);
+        i += 1;
     }
-}
-
-fn write_batch(
-    out: &mut [u8],
-    d: usize,
-    sequence: u64,
-    operations: &[u64],
-    coordinates: &[u32],
-    captions: &[u8],
-)
-    requires { ⌜ Writable d (now operations) (now coordinates) (now captions) ⌝ }
-    requires { ⌜ length (now operations) / 2 ≤ 1024 ⌝ }
-    requires { ⌜ length (payloadBytes batch sequence (writtenAll d (now coordinates) (now captions) (asked (now operations)))) ≤ length (now out) ⌝ }
-    ensures { λ _. ⌜ Front (now (out .entry)) (payloadBytes batch sequence (writtenAll d (now (coordinates .entry)) (now (captions .entry)) (asked (now (operations .entry))))) (now (out .exit)) ⌝ }
-{
-    frames::write_opcode(out, 3, sequence);
-    fields::put_u32(out, 9, (operations.len() / 2) as u32);
-    write_operations(&mut out[13..], d, operations, coordinates, captions);
-}
-
-fn write_single(
-    out: &mut [u8],
-    d: usize,
-    sequence: u64,
-    operations: &[u64],
-    coordinates: &[u32],
-    captions: &[u8],
-)
-    requires { ⌜ Writable d (now operations) (now coordinates) (now captions) ⌝ }
-    requires { ⌜ length (now operations) ≡ 2 ⌝ }
-    requires { ⌜ length (payloadBytes single sequence (writtenAll d (now coordinates) (now captions) (asked (now operations)))) ≤ length (now out) ⌝ }
-    ensures { λ _. ⌜ Front (now (out .entry)) (payloadBytes single sequence (writtenAll d (now (coordinates .entry)) (now (captions .entry)) (asked (now (operations .entry))))) (now (out .exit)) ⌝ }
-{
-    let o = rows::operation_at(operations, 0);
-    let id = o.id;
-    let put = o.put;
-    if put {
-        let start = o.at;
-        let stop = start + o.caption;
-        frames::write_opcode(out, 1, sequence);
-        write_fields(&mut out[9..], id.0, coordinates, &captions[start..stop]);
-    } else {
-        frames::write_delete(out, sequence, id.0);
-    }
-}
-
-pub fn encode_frame(
-    config: Config,
-    sequence: u64,
-    operations: &[u64],
-    coordinates: &[u32],
-    captions: &[u8],
-    out: &mut [u8],
-) -> Encoded
-    ensures { λ r. ⌜ r ≡ told (encodeCall single config sequence (now (operations .entry)) (now (coordinates .entry)) (now (captions .entry)) (now (out .entry))) ⌝ }
-    ensures { λ _. ⌜ now (out .exit) ≡ outputAfter (now (out .entry)) (encodeCall single config sequence (now (operations .entry)) (now (coordinates .entry)) (now (captions .entry)) (now (out .entry))) ⌝ }
-{
-    let n = match check(
-        false,
-        config,
-        sequence,
-        operations,
-        coordinates,
-        captions,
-        out.len(),
-    ) {
-        Encoded::Bytes(n) => n,
-        Encoded::Refused(r) => {
-            return Encoded::Refused(r);
-        }
-    };
-    let d = config.dimensions;
-    write_single(
-        &mut out[8..],
-        d,
-        sequence,
-        operations,
-        coordinates,
-        captions,
-    );
-    frames::seal(out, n - 12);
-    Encoded::Bytes(n)
-}
-
-pub fn encode_batch(
-    config: Config,
-    sequence: u64,
-    operations: &[u64],
-    coordinates: &[u32],
-    captions: &[u8],
-    out: &mut [u8],
-) -> Encoded
-    ensures { λ r. ⌜ r ≡ told (encodeCall batch config sequence (now (operations .entry)) (now (coordinates .entry)) (now (captions .entry)) (now (out .entry))) ⌝ }
-    ensures { λ _. ⌜ now (out .exit) ≡ outputAfter (now (out .entry)) (encodeCall batch config sequence (now (operations .entry)) (now (coordinates .entry)) (now (captions .entry)) (now (out .entry))) ⌝ }
-{
-    let n = match check(
-        true,
-        config,
-        sequence,
-        operations,
-        coordinates,
-        captions,
-        out.len(),
-    ) {
-        Encoded::Bytes(n) => n,
-        Encoded::Refused(r) => {
-            return Encoded::Refused(r);
-        }
-    };
-    let d = config.dimensions;
-    write_batch(
-        &mut out[8..],
-        d,
-        sequence,
-        operations,
-        coordinates,
-        captions,
-    );
-    frames::seal(out, n - 12);
-    Encoded::Bytes(n)
 }

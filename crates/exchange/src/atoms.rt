@@ -1,6 +1,4 @@
 // The three atoms of an answer, and the lines that consist of a name and an atom.
-ghost use Prim.Native.Nat.{_≤_};
-ghost use lib.ListN.{length};
 use crate::text;
 use crate::text::Cursor;
 use config::Config;
@@ -23,30 +21,21 @@ pub fn set(answer: &mut [u8], c: Cursor, config: Config) -> Cursor {
 pub fn bytes(answer: &mut [u8], c: Cursor, s: &[u8]) -> Cursor {
     let at = text::decimal(answer, c, s.len() as u64);
     if MAX_HEX < s.len() {
-        return sum(answer, at, crc32::crc32(s));
+        return text::named(answer, at, b"#", crc32::crc32(s) as u64);
     }
     let behind = text::byte(answer, at, b':');
     hex_all(answer, behind, s)
 }
 
-// WORDS, of u64 words: rows, starts.
-pub fn words(answer: &mut [u8], c: Cursor, w: &[u64]) -> Cursor {
-    let at = text::decimal(answer, c, w.len() as u64);
-    if MAX_WORDS < w.len() {
-        return sum(answer, at, crc_of_words(w));
+// WORDS: of `w`, rows or starts, or, where `w` is empty, of `e`, active entries.
+pub fn words(answer: &mut [u8], c: Cursor, w: &[u64], e: &[u32]) -> Cursor {
+    let n = count(w, e);
+    let at = text::decimal(answer, c, n as u64);
+    if MAX_WORDS < n {
+        return text::named(answer, at, b"#", crc_of_words(w, e, n) as u64);
     }
     let behind = text::byte(answer, at, b':');
-    list(answer, behind, w)
-}
-
-// WORDS, of u32 words: active entries.
-pub fn entries(answer: &mut [u8], c: Cursor, w: &[u32]) -> Cursor {
-    let at = text::decimal(answer, c, w.len() as u64);
-    if MAX_WORDS < w.len() {
-        return sum(answer, at, crc_of_words32(w));
-    }
-    let behind = text::byte(answer, at, b':');
-    list32(answer, behind, w)
+    list(answer, behind, w, e, without_zeros(w, e, n))
 }
 
 // `name` ends in a space.
@@ -56,20 +45,10 @@ pub fn bytes_line(answer: &mut [u8], c: Cursor, name: &[u8], s: &[u8]) -> Cursor
     text::byte(answer, behind, b'\n')
 }
 
-pub fn words_line(answer: &mut [u8], c: Cursor, name: &[u8], w: &[u64]) -> Cursor {
+pub fn words_line(answer: &mut [u8], c: Cursor, name: &[u8], w: &[u64], e: &[u32]) -> Cursor {
     let at = text::put(answer, c, name);
-    let behind = words(answer, at, w);
+    let behind = words(answer, at, w, e);
     text::byte(answer, behind, b'\n')
-}
-
-pub fn entries_line(answer: &mut [u8], c: Cursor, name: &[u8], w: &[u32]) -> Cursor {
-    let at = text::put(answer, c, name);
-    let behind = entries(answer, at, w);
-    text::byte(answer, behind, b'\n')
-}
-
-fn sum(answer: &mut [u8], c: Cursor, crc: u32) -> Cursor {
-    text::named(answer, c, b"#", crc as u64)
 }
 
 fn hex_all(answer: &mut [u8], c: Cursor, s: &[u8]) -> Cursor {
@@ -82,77 +61,55 @@ fn hex_all(answer: &mut [u8], c: Cursor, s: &[u8]) -> Cursor {
     at
 }
 
-// The CRC-32 of all words as u64 little-endian.
-fn crc_of_words(w: &[u64]) -> u32 {
+fn count(w: &[u64], e: &[u32]) -> usize {
+    if 0 < w.len() { w.len() } else { e.len() }
+}
+
+fn word(w: &[u64], e: &[u32], i: usize) -> u64 {
+    if i < w.len() {
+        return w[i];
+    }
+    if i < e.len() {
+        return wide(e[i]);
+    }
+    0
+}
+
+fn wide(w: u32) -> u64 {
+    w as u64
+}
+
+// The CRC-32 of the first n words as u64 little-endian.
+fn crc_of_words(w: &[u64], e: &[u32], n: usize) -> u32 {
     let t = crc32::tables();
     let mut crc = crc32::start();
-    let mut word = [0u8; 8];
+    let mut bytes = [0u8; 8];
     let mut i: usize = 0;
-    while i < w.len() {
-        fields::put_u64(&mut word, 0, w[i]);
-        crc = crc32::update(&t, crc, &word);
+    while i < n {
+        fields::put_u64(&mut bytes, 0, word(w, e, i));
+        crc = crc32::update(&t, crc, &bytes);
         i += 1;
     }
     crc32::finish(crc)
 }
 
-fn crc_of_words32(w: &[u32]) -> u32 {
-    let t = crc32::tables();
-    let mut crc = crc32::start();
-    let mut word = [0u8; 8];
-    let mut i: usize = 0;
-    while i < w.len() {
-        fields::put_u32(&mut word, 0, w[i]);
-        crc = crc32::update(&t, crc, &word);
-        i += 1;
-    }
-    crc32::finish(crc)
-}
-
-// How many words are left without the zeros at the end.
-fn without_zeros(w: &[u64]) -> usize
-    ensures { λ r. ⌜ r ≤ length (now (w .entry)) ⌝ }
-{
-    let mut n = w.len();
-    while 0 < n {
-        if w[n - 1] != 0 {
-            return n;
+// How many of the first n words are left without the zeros at the end.
+fn without_zeros(w: &[u64], e: &[u32], n: usize) -> usize {
+    let mut left = n;
+    while 0 < left {
+        if word(w, e, left - 1) != 0 {
+            return left;
         }
-        n -= 1;
+        left -= 1;
     }
-    n
+    left
 }
 
-fn without_zeros32(w: &[u32]) -> usize
-    ensures { λ r. ⌜ r ≤ length (now (w .entry)) ⌝ }
-{
-    let mut n = w.len();
-    while 0 < n {
-        if w[n - 1] != 0 {
-            return n;
-        }
-        n -= 1;
-    }
-    n
-}
-
-fn list(answer: &mut [u8], c: Cursor, w: &[u64]) -> Cursor {
-    let n = without_zeros(w);
+fn list(answer: &mut [u8], c: Cursor, w: &[u64], e: &[u32], n: usize) -> Cursor {
     let mut at = c;
     let mut i: usize = 0;
     while i < n {
-        at = listed(answer, at, i, w[i]);
-        i += 1;
-    }
-    at
-}
-
-fn list32(answer: &mut [u8], c: Cursor, w: &[u32]) -> Cursor {
-    let n = without_zeros32(w);
-    let mut at = c;
-    let mut i: usize = 0;
-    while i < n {
-        at = listed(answer, at, i, wide(w[i]));
+        at = listed(answer, at, i, word(w, e, i));
         i += 1;
     }
     at
@@ -163,8 +120,4 @@ fn listed(answer: &mut [u8], c: Cursor, place: usize, word: u64) -> Cursor {
         return text::decimal(answer, c, word);
     }
     text::named(answer, c, b",", word)
-}
-
-fn wide(w: u32) -> u64 {
-    w as u64
 }

@@ -2,6 +2,8 @@
 // end of the memory, and the answer's length is then 0.
 ghost use Prim.Native.Nat.{_≤_, _<_};
 ghost use lib.ListN.{length};
+use refusal::Checked;
+use refusal::Refusal;
 
 pub struct Cursor {
     pub at: usize,
@@ -22,6 +24,26 @@ pub fn too_little() -> Cursor {
 
 pub fn bad_request(answer: &mut [u8]) -> Cursor {
     line(answer, start(), b"bad request")
+}
+
+pub fn refused(answer: &mut [u8], name: &[u8], refusal: Refusal) -> Cursor {
+    number_line(answer, start(), name, refusal.number() as u64)
+}
+
+// What a call answers that only tests.
+pub fn checked(answer: &mut [u8], checked: Checked) -> Cursor {
+    match checked {
+        Checked::Passed => line(answer, start(), b"valid"),
+        Checked::Refused(refusal) => refused(answer, b"refused ", refusal),
+    }
+}
+
+pub fn utf8(answer: &mut [u8], yes: bool) -> Cursor {
+    if yes {
+        line(answer, start(), b"utf8 yes")
+    } else {
+        line(answer, start(), b"utf8 no")
+    }
 }
 
 // The length of the text before the cursor.
@@ -79,33 +101,33 @@ pub fn named(answer: &mut [u8], c: Cursor, name: &[u8], n: u64) -> Cursor {
 }
 
 pub fn decimal(answer: &mut [u8], c: Cursor, n: u64) -> Cursor {
-    let mut digits = [b'0'; 20];
-    let mut first: usize = 19;
-    let mut rest = n / 10;
-    digits[19] = digit(n % 10);
-    while 0 < first {
-        if rest == 0 {
-            return put(answer, c, &digits[first..]);
-        }
-        first -= 1;
-        digits[first] = digit(rest % 10);
-        rest /= 10;
+    let mut at = c;
+    let mut unit: u64 = 10_000_000_000_000_000_000;
+    while 1 < unit {
+        at = digit_of(answer, at, n, unit);
+        unit /= 10;
     }
-    put(answer, c, &digits)
+    byte(answer, at, digit((n % 10) as u8))
+}
+
+// The digit that counts the units, if it or one before it is not 0.
+fn digit_of(answer: &mut [u8], c: Cursor, n: u64, unit: u64) -> Cursor
+    requires { ⌜ 0 < unit ⌝ }
+{
+    if n < unit {
+        return c;
+    }
+    byte(answer, c, digit((n / unit % 10) as u8))
 }
 
 // Two digits, lower case.
 pub fn hex(answer: &mut [u8], c: Cursor, b: u8) -> Cursor {
-    let at = byte(answer, c, digit((b / 16) as u64));
-    byte(answer, at, digit((b % 16) as u64))
+    let at = byte(answer, c, digit(b / 16));
+    byte(answer, at, digit(b % 16))
 }
 
-fn digit(n: u64) -> u8
+fn digit(n: u8) -> u8
     requires { ⌜ n < 16 ⌝ }
 {
-    if n < 10 {
-        b'0' + (n as u8)
-    } else {
-        b'a' + ((n - 10) as u8)
-    }
+    if n < 10 { b'0' + n } else { b'a' + (n - 10) }
 }

@@ -11,31 +11,42 @@ fn write(answer: &[u8], c: Cursor) {
     io::write_all(STDOUT_FILENO, &answer[0..n]);
 }
 
-// The first n bytes.
+fn front(s: &[u8], n: usize) -> &[u8] {
+    if s.len() < n {
+        return s;
+    }
+    &s[0..n]
+}
+
+fn front_words(w: &[u64], n: usize) -> &[u64] {
+    if w.len() < n {
+        return w;
+    }
+    &w[0..n]
+}
+
+fn front_entries(e: &[u32], n: usize) -> &[u32] {
+    if e.len() < n {
+        return e;
+    }
+    &e[0..n]
+}
+
 fn show_bytes(s: &[u8], n: usize) {
     let mut answer = [0u8; 16384];
-    if s.len() < n {
-        return;
-    }
-    let c = atoms::bytes_line(&mut answer, text::start(), b"bytes ", &s[0..n]);
+    let c = atoms::bytes_line(&mut answer, text::start(), b"bytes ", front(s, n));
     write(&answer, c);
 }
 
-fn show_words(w: &[u64], n: usize) {
+fn show_words(w: &[u64], e: &[u32], n: usize) {
     let mut answer = [0u8; 16384];
-    if w.len() < n {
-        return;
-    }
-    let c = atoms::words_line(&mut answer, text::start(), b"words ", &w[0..n]);
-    write(&answer, c);
-}
-
-fn show_entries(w: &[u32], n: usize) {
-    let mut answer = [0u8; 16384];
-    if w.len() < n {
-        return;
-    }
-    let c = atoms::entries_line(&mut answer, text::start(), b"entries ", &w[0..n]);
+    let c = atoms::words_line(
+        &mut answer,
+        text::start(),
+        b"words ",
+        front_words(w, n),
+        front_entries(e, n),
+    );
     write(&answer, c);
 }
 
@@ -58,53 +69,34 @@ fn lengths_of_bytes(s: &[u8]) {
     show_bytes(s, 4097);
 }
 
-fn lengths_of_words(w: &[u64]) {
-    show_words(w, 0);
-    show_words(w, 1);
-    show_words(w, 3);
-    show_words(w, 64);
-    show_words(w, 65);
+// Of the two one is empty.
+fn lengths_of_words(w: &[u64], e: &[u32]) {
+    show_words(w, e, 0);
+    show_words(w, e, 1);
+    show_words(w, e, 3);
+    show_words(w, e, 64);
+    show_words(w, e, 65);
 }
 
-fn lengths_of_entries(w: &[u32]) {
-    show_entries(w, 0);
-    show_entries(w, 1);
-    show_entries(w, 3);
-    show_entries(w, 64);
-    show_entries(w, 65);
-}
-
-// Loaded from bytes, each bit a one, zeros, and one word among zeros.
-fn words(s: &[u8]) {
+// What the part has, and the fill behind it.
+fn filled(part: &[u8], fill: u64) {
     let mut w = [0u64; 65];
-    lend::load64(&mut w, s);
-    lengths_of_words(&w);
-    lend::ones64(&mut w);
-    lengths_of_words(&w);
-    let mut z = [0u64; 65];
-    lengths_of_words(&z);
-    z[2] = 10;
-    lengths_of_words(&z);
-}
-
-fn entries(s: &[u8]) {
-    let mut w = [0u32; 65];
-    lend::load32(&mut w, s);
-    lengths_of_entries(&w);
-    lend::ones32(&mut w);
-    lengths_of_entries(&w);
-    let mut z = [0u32; 65];
-    lengths_of_entries(&z);
-    z[2] = 10;
-    lengths_of_entries(&z);
+    let mut e = [0u32; 65];
+    lend::load64(&mut w, part, fill);
+    lend::load32(&mut e, part, (fill % 4294967296) as u32);
+    lengths_of_words(&w, &e[0..0]);
+    lengths_of_words(&w[0..0], &e);
 }
 
 fn main() {
     let mut s = [0u8; 4097];
     rise(&mut s);
     lengths_of_bytes(&s);
-    words(&s);
-    entries(&s);
-    lend::fill(&mut s, 511);
+    filled(&s, 0);
+    filled(front(&s, 20), 7);
+    filled(front(&s, 0), u64::MAX);
+    filled(front(&s, 0), 0);
+    filled(b"\0\0\0\0\0\0\0\0\n\0\0\0\0\0\0\0", 0);
+    lend::fill_bytes(&mut s, 255);
     lengths_of_bytes(&s);
 }

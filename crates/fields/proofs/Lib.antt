@@ -4,3 +4,4 @@ pub mod Readers
 pub mod Writers
 pub mod WriteOn
 pub mod Edges
+pub mod PlacedLaws

@@ -4,6 +4,7 @@ ghost use mathlib.Core.Path.{_≡_};
 ghost use mathlib.Core.List.{_++_};
 ghost use Prim.Native.Nat.{_+_, _≤_, _<_};
 ghost use lib.ListN.{length, take, drop, replicate};
+ghost use Rattle.fields.specs.Placed.{placed};
 ghost use Rattle.fields.specs.Fields.{num, bytes, field8, field32, field64};
 
 // What a reader finds: the number and the cursor behind it, or a field that runs past the end.
@@ -83,7 +84,7 @@ fn wide(x: u8) -> u32
 // Internal: the caller knows the room. No byte but the field's is touched; at 0 the number is at the front.
 pub fn put_u8(out: &mut [u8], at: usize, v: u8)
     requires { ⌜ at + 1 ≤ length (now out) ⌝ }
-    ensures { λ _. ⌜ now (out .exit) ≡ take at (now (out .entry)) ++ bytes 1 v ++ drop (at + 1) (now (out .entry)) ⌝ }
+    ensures { λ _. ⌜ now (out .exit) ≡ placed at (bytes 1 v) (now (out .entry)) ⌝ }
 {
     out[at] = v;
 }
@@ -91,7 +92,7 @@ pub fn put_u8(out: &mut [u8], at: usize, v: u8)
 // Internal: as put_u8.
 pub fn put_u32(out: &mut [u8], at: usize, v: u32)
     requires { ⌜ at + 4 ≤ length (now out) ⌝ }
-    ensures { λ _. ⌜ now (out .exit) ≡ take at (now (out .entry)) ++ bytes 4 v ++ drop (at + 4) (now (out .entry)) ⌝ }
+    ensures { λ _. ⌜ now (out .exit) ≡ placed at (bytes 4 v) (now (out .entry)) ⌝ }
 {
     let v1 = v / 256;
     let v2 = v1 / 256;
@@ -105,7 +106,7 @@ pub fn put_u32(out: &mut [u8], at: usize, v: u32)
 // Internal: as put_u8.
 pub fn put_u64(out: &mut [u8], at: usize, v: u64)
     requires { ⌜ at + 8 ≤ length (now out) ⌝ }
-    ensures { λ _. ⌜ now (out .exit) ≡ take at (now (out .entry)) ++ bytes 8 v ++ drop (at + 8) (now (out .entry)) ⌝ }
+    ensures { λ _. ⌜ now (out .exit) ≡ placed at (bytes 8 v) (now (out .entry)) ⌝ }
 {
     let low = (v % 4294967296) as u32;
     let high = (v / 4294967296) as u32;
@@ -116,7 +117,7 @@ pub fn put_u64(out: &mut [u8], at: usize, v: u64)
 // Internal: `src` at the front of `out`, which has room for it.
 pub fn copy(out: &mut [u8], src: &[u8])
     requires { ⌜ length (now src) ≤ length (now out) ⌝ }
-    ensures { λ _. ⌜ now (out .exit) ≡ now (src .entry) ++ drop (length (now (src .entry))) (now (out .entry)) ⌝ }
+    ensures { λ _. ⌜ now (out .exit) ≡ placed 0 (now (src .entry)) (now (out .entry)) ⌝ }
 {
     let mut i: usize = 0;
     while i < src.len() {

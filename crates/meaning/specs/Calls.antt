@@ -1,29 +1,23 @@
 -- Each call that is offered to users: what it answers and what its lent memory holds after, refused or not, as a function of what is
 -- handed in. The contracts of the code cite these.
-use Prim.Native.Nat.{ℕ, _+_, _*_, _-_}
-use mathlib.Core.Bool.{Bool, true, false, cond}
-use mathlib.Core.List.{List, [], _∷_, _++_}
-use lib.ListN.{length, drop}
+use Prim.Native.Nat.{ℕ}
+use mathlib.Core.Bool.{Bool, true, cond}
+use mathlib.Core.List.{List, []}
+use lib.ListN.{length}
 use lib.Dec.{ltb, eqb}
 use Rattle.config.specs.declared.Config.{Config}
 use Rattle.rows.specs.Lent.{rowsLent}
-use Rattle.meaning.specs.Refusal.{Refusal, number, Result, answer, refused}
-use Rattle.meaning.specs.Rows.{Row}
+use Rattle.refusal.specs.Refusal.{Result, answer, refused}
+use Rattle.layout.specs.declared.Extent.{Extent}
+use Rattle.layout.specs.declared.Shape.{Shape}
+use Rattle.fields.specs.Placed.{placed}
 use Rattle.meaning.specs.Snapshot.{Snapshot, readSnapshot}
-use Rattle.meaning.specs.Recovery.{Recovery, recovered, refusedSnapshot, refusedLog, Recovered, recover, rowsOf, recordCount, activeCount, sizeOf, tailLength}
-use Rattle.meaning.specs.Tables.{rowWords, activeNodes, filled}
-use Rattle.meaning.specs.Writer.{Extent, write}
-use Rattle.meaning.specs.Encoder.{Shape, encode, deleteFrame}
+use Rattle.meaning.specs.Recovery.{Recovery, recovered, refusedSnapshot, refusedLog, Recovered, recover, rowsOf, recordCount, activeCount, totalSize, tailLength}
+use Rattle.meaning.specs.Tables.{Tables, tablesFor}
+use Rattle.meaning.specs.Writer.{write}
+use Rattle.meaning.specs.Encoder.{encode, deleteFrame}
 
 -- ---- reading and recovery: two lent tables, row words and active entries
-pub record Tables : Type 0 where
-  pub rows : List ℕ
-  pub active : List ℕ
-
--- a row per record, the active nodes by rising ID, and zeros after; as long as what was lent
-abbrev pub tablesFor : List ℕ → List ℕ → List Row → Tables
-tablesFor words entries rows = record { rows = filled (length words) (rowWords rows); active = filled (length entries) (activeNodes rows) }
-
 abbrev pub readCall : List ℕ → List ℕ → List ℕ → Result Snapshot
 readCall words entries snapshot = readSnapshot (rowsLent words entries) snapshot
 
@@ -56,7 +50,7 @@ recoveryTold log r =
       skipped = r .state .skipped;
       keep = r .keep;
       tail = tailLength log r;
-      size = sizeOf r;
+      size = totalSize r;
     }
 
 abbrev pub recoverCall : List ℕ → List ℕ → List ℕ → List ℕ → Recovery
@@ -70,7 +64,7 @@ recoverTables words entries (refusedLog why at) = tablesFor words entries []
 -- ---- writers: a lent output
 -- the bytes at its front and the rest untouched, or no byte changed
 abbrev pub outputAfter : List ℕ → Result (List ℕ) → List ℕ
-outputAfter out (answer bytes) = bytes ++ drop (length bytes) out
+outputAfter out (answer bytes) = placed 0 bytes out
 outputAfter out (refused why) = out
 
 abbrev pub writeCall : Extent → Config → ℕ → List ℕ → ℕ → List ℕ → List ℕ → List ℕ → Result (List ℕ)
@@ -87,4 +81,4 @@ abbrev pub deleteCount : ℕ → List ℕ → ℕ
 deleteCount sequence out = cond (deleteRefused sequence out) 0 29
 
 abbrev pub deleteOutput : ℕ → ℕ → List ℕ → List ℕ
-deleteOutput sequence id out = cond (deleteRefused sequence out) out (deleteFrame sequence id ++ drop 29 out)
+deleteOutput sequence id out = cond (deleteRefused sequence out) out (placed 0 (deleteFrame sequence id) out)

@@ -11,8 +11,13 @@ use Rattle.fields.specs.Fields.{part, bytes}
 use Rattle.config.specs.Limits.{maxFrame, maxBatchOperations}
 use Rattle.config.specs.declared.Config.{Config}
 use Rattle.rows.specs.Rows.{operationOf}
-use Rattle.meaning.specs.Refusal.{captionTooLong, notUtf8, wrongLength, wrongSequence, wrongBatchCount, outputTooShort, requestMalformed, Result, answer, refused, _>>=_, refuse}
-use Rattle.meaning.specs.Item.{validate, coordinates, captionLimit}
+use Rattle.refusal.specs.Refusal.{Result, answer, refused, _>>=_, refuse}
+use Rattle.refusal.specs.declared.Refusal.the-variants.{CaptionTooLong, NotUtf8, WrongLength, WrongSequence, WrongBatchCount, OutputTooShort, RequestMalformed}
+use Rattle.config.specs.Settings.{validate, captionLimit}
+use Rattle.layout.specs.Layout.{frameLength}
+use Rattle.layout.specs.declared.Shape.{Shape}
+use Rattle.layout.specs.declared.Shape.the-variants.{Single, Batch}
+use Rattle.meaning.specs.Item.{coordinates}
 
 -- an operation as it is asked for: an ID and a packed word (put, caption length, caption offset)
 pub record Asked : Type 0 where
@@ -30,75 +35,80 @@ asked words = askedFrom (length words / 2) 0 words
 abbrev pub isPut : Asked → Bool
 isPut o = operationOf (o .id) (o .word) .put
 
-abbrev pub captionOf : Asked → ℕ
-captionOf o = operationOf (o .id) (o .word) .caption
+abbrev pub askedLength : Asked → ℕ
+askedLength o = operationOf (o .id) (o .word) .«caption_length»
 
-abbrev pub captionAt : Asked → ℕ
-captionAt o = operationOf (o .id) (o .word) .at
+abbrev pub askedStart : Asked → ℕ
+askedStart o = operationOf (o .id) (o .word) .at
 
 unfoldable pub putCount : List Asked → ℕ
 putCount [] = 0
 putCount (o ∷ os) = cond (isPut o) (suc (putCount os)) (putCount os)
 
 -- an operation's bytes: its tag stands before the sequence in a single frame and before the fields in a batch
-pub record Encoded : Type 0 where
+pub record Tagged : Type 0 where
   pub tag : ℕ
   pub fields : List ℕ
 
--- coordinates come as the bits of their f32, one word each; per put 14, 33 (caption range outside its buffer), 12, 13, 15
-unfoldable pub encodePut : Config → List ℕ → List ℕ → Asked → Result Encoded
-encodePut c coords captions o = do
-  _ ← refuse captionTooLong (ltb (captionLimit c) (captionOf o))
-  _ ← refuse requestMalformed (ltb (length captions) (captionAt o + captionOf o))
+-- a put's fields: ID, coordinates, caption length, caption
+abbrev pub putFields : ℕ → List ℕ → ℕ → List ℕ → List ℕ
+putFields id coords captionLength caption = bytes 8 id ++ (coordinateBytes coords ++ (bytes 4 captionLength ++ caption))
+
+-- A put of this ID whose caption has n bytes from `start` on: 14, 33 (caption range outside its buffer), 12, 13, 15.
+-- Coordinates come as the bits of their f32, one word each.
+abbrev pub putFor : Config → List ℕ → List ℕ → ℕ → ℕ → ℕ → Result Tagged
+putFor c coords captions id n start = do
+  _ ← refuse CaptionTooLong (ltb (captionLimit c) n)
+  _ ← refuse RequestMalformed (ltb (length captions) (start + n))
   _ ← coordinates c (coordinateBytes coords)
-  _ ← refuse notUtf8 (not (isUtf8 (part captions (captionAt o) (captionOf o))))
-  answer
-      (record {
-        tag = 1;
-        fields = bytes 8 (o .id) ++ (coordinateBytes coords ++ (bytes 4 (captionOf o) ++ part captions (captionAt o) (captionOf o)));
-      })
+  _ ← refuse NotUtf8 (not (isUtf8 (part captions start n)))
+  answer (record { tag = 1; fields = putFields id coords n (part captions start n) })
+
+unfoldable pub encodePut : Config → List ℕ → List ℕ → Asked → Result Tagged
+encodePut c coords captions o = putFor c coords captions (o .id) (askedLength o) (askedStart o)
 
 -- per delete 33 if its packed word is not 0
-unfoldable pub encodeDelete : Asked → Result Encoded
+unfoldable pub encodeDelete : Asked → Result Tagged
 encodeDelete o = do
-  _ ← refuse requestMalformed (not (eqb (o .word) 0))
+  _ ← refuse RequestMalformed (not (eqb (o .word) 0))
   answer (record { tag = 2; fields = bytes 8 (o .id) })
 
+-- a put takes the first d coordinates
+abbrev pub encodeOperation : Config → List ℕ → List ℕ → Asked → Result Tagged
+encodeOperation c coords captions o = cond (isPut o) (encodePut c (take (c .dimensions) coords) captions o) (encodeDelete o)
+
 -- operations in order; each put takes the next d coordinates
-unfoldable pub encodeAll : Config → List ℕ → List ℕ → List Asked → Result (List Encoded)
+unfoldable pub encodeAll : Config → List ℕ → List ℕ → List Asked → Result (List Tagged)
 encodeAll c coords captions [] = answer []
 encodeAll c coords captions (o ∷ os) = do
-  this ← cond (isPut o) (encodePut c (take (c .dimensions) coords) captions o) (encodeDelete o)
+  this ← encodeOperation c coords captions o
   rest ← encodeAll c (cond (isPut o) (drop (c .dimensions) coords) coords) captions os
   answer (this ∷ rest)
 
-pub data Shape : Type 0 where
-  single batch : Shape
-
 -- 25, batch only: half the words, rounded down, not 1..=1024
 abbrev pub batchCount : Shape → ℕ → Result (Unit {0})
-batchCount single n = answer tt
-batchCount batch n = do
-  _ ← refuse wrongBatchCount (ltb n 1)
-  refuse wrongBatchCount (ltb maxBatchOperations n)
+batchCount Single n = answer tt
+batchCount Batch n = do
+  _ ← refuse WrongBatchCount (ltb n 1)
+  refuse WrongBatchCount (ltb maxBatchOperations n)
 
 -- a single frame has exactly one operation
 abbrev pub singleCount : Shape → ℕ → Result (Unit {0})
-singleCount single n = refuse requestMalformed (not (eqb n 1))
-singleCount batch n = answer tt
+singleCount Single n = refuse RequestMalformed (not (eqb n 1))
+singleCount Batch n = answer tt
 
-unfoldable pub taggedBytes : List Encoded → List ℕ
+unfoldable pub taggedBytes : List Tagged → List ℕ
 taggedBytes [] = []
 taggedBytes (e ∷ es) = (e .tag ∷ e .fields) ++ taggedBytes es
 
 -- what a single frame's one operation is
-abbrev pub singleBytes : ℕ → List Encoded → List ℕ
+abbrev pub singleBytes : ℕ → List Tagged → List ℕ
 singleBytes sequence [] = []
 singleBytes sequence (e ∷ es) = e .tag ∷ (bytes 8 sequence ++ e .fields)
 
-abbrev pub payloadBytes : Shape → ℕ → List Encoded → List ℕ
-payloadBytes single sequence es = singleBytes sequence es
-payloadBytes batch sequence es = 3 ∷ (bytes 8 sequence ++ (bytes 4 (length es) ++ taggedBytes es))
+abbrev pub payloadBytes : Shape → ℕ → List Tagged → List ℕ
+payloadBytes Single sequence es = singleBytes sequence es
+payloadBytes Batch sequence es = 3 ∷ (bytes 8 sequence ++ (bytes 4 (length es) ++ taggedBytes es))
 
 -- length, its CRC, payload, its CRC
 unfoldable pub frameBytes : List ℕ → List ℕ
@@ -108,21 +118,36 @@ frameBytes payload =
 -- 22, then 32
 unfoldable pub sealed : ℕ → List ℕ → Result (List ℕ)
 sealed room payload = do
-  _ ← refuse wrongLength (ltb maxFrame (length payload))
-  _ ← refuse outputTooShort (ltb room (length payload + 12))
+  _ ← refuse WrongLength (ltb maxFrame (length payload))
+  _ ← refuse OutputTooShort (ltb room (frameLength (length payload)))
   answer (frameBytes payload)
+
+-- 25, then 33: how many words there are
+unfoldable pub wordsChecked : Shape → ℕ → Result (Unit {0})
+wordsChecked shape n = do
+  _ ← batchCount shape (n / 2)
+  _ ← refuse RequestMalformed (not (eqb (n % 2) 0))
+  singleCount shape (n / 2)
+
+-- what follows: how many coordinates there are, the operations, the room
+unfoldable pub encodeOperations : Shape → Config → ℕ → List ℕ → List ℕ → List ℕ → ℕ → Result (List ℕ)
+encodeOperations shape c sequence words coords captions room = do
+  _ ← refuse RequestMalformed (not (eqb (length coords) (c .dimensions * putCount (asked words))))
+  operations ← encodeAll c coords captions (asked words)
+  sealed room (payloadBytes shape sequence operations)
+
+-- once the settings are valid: 24 for sequence 0, then the words
+unfoldable pub encodeValid : Shape → Config → ℕ → List ℕ → List ℕ → List ℕ → ℕ → Result (List ℕ)
+encodeValid shape c sequence words coords captions room = do
+  _ ← refuse WrongSequence (eqb sequence 0)
+  _ ← wordsChecked shape (length words)
+  encodeOperations shape c sequence words coords captions room
 
 unfoldable pub encode : Shape → Config → ℕ → List ℕ → List ℕ → List ℕ → ℕ → Result (List ℕ)
 encode shape c sequence words coords captions room = do
   _ ← validate c
-  _ ← refuse wrongSequence (eqb sequence 0)
-  _ ← batchCount shape (length words / 2)
-  _ ← refuse requestMalformed (not (eqb (length words % 2) 0))
-  _ ← singleCount shape (length words / 2)
-  _ ← refuse requestMalformed (not (eqb (length coords) (c .dimensions * putCount (asked words))))
-  encoded ← encodeAll c coords captions (asked words)
-  sealed room (payloadBytes shape sequence encoded)
+  encodeValid shape c sequence words coords captions room
 
 -- the playout host's delete frame, 29 bytes
 abbrev pub deleteFrame : ℕ → ℕ → List ℕ
-deleteFrame sequence id = frameBytes (payloadBytes single sequence (record { tag = 2; fields = bytes 8 id } ∷ []))
+deleteFrame sequence id = frameBytes (payloadBytes Single sequence (record { tag = 2; fields = bytes 8 id } ∷ []))

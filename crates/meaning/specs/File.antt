@@ -7,8 +7,8 @@ use Rattle.crc32.specs.Crc.{crcOf}
 use Rattle.fields.specs.Fields.{bytes}
 use Rattle.config.specs.Settings.{metricNumber, efOf}
 use Rattle.config.specs.declared.Config.{Config}
-use Rattle.meaning.specs.Rows.{Record}
-use Rattle.meaning.specs.Snapshot.{magic}
+use Rattle.layout.specs.Layout.{magic}
+use Rattle.meaning.specs.Records.{Record}
 
 abbrev pub flagOf : Bool → ℕ
 flagOf true = 1

@@ -1,7 +1,7 @@
 pub mod Every
-pub mod Refusal
 pub mod Replay
-pub mod Rows
+pub mod LiveOnce
+pub mod Records
 pub mod Item
 pub mod Snapshot
 pub mod Log

@@ -5,7 +5,12 @@ use mathlib.Core.Bool.{Bool, true, false, not, cond}
 use mathlib.Core.List.{List, [], _∷_, _++_}
 use lib.ListN.{length}
 use lib.Dec.{ltb, leb, eqb}
-use Rattle.meaning.specs.Refusal.{Refusal, tooFewRows, storageLimits, inactiveDelete, gapAfterSnapshot, Result, answer, refused, _>>=_, refuse}
+use Rattle.layout.specs.Layout.{snapshotLength}
+use Rattle.layout.specs.declared.Shape.{Shape}
+use Rattle.layout.specs.declared.Shape.the-variants.{Single, Batch}
+use Rattle.refusal.specs.Refusal.{Result, answer, refused, _>>=_, refuse}
+use Rattle.refusal.specs.declared.Refusal.{Refusal}
+use Rattle.refusal.specs.declared.Refusal.the-variants.{TooFewRows, StorageLimits, InactiveDelete, GapAfterSnapshot}
 
 -- what replay asks of a record: its ID, whether it is deleted, its encoded size, and the record once it is deleted
 pub record Kind (A : Type 0) : Type 0 where
@@ -18,11 +23,11 @@ pub data Operation (A : Type 0) : Type 0 where
   put : A → Operation A
   remove : ℕ → Operation A
 
--- a frame of the log as it was decoded: its first byte, its sequence, whether it is a batch, its operations
+-- a frame of the log as it was decoded: its first byte, its sequence, whether it is single or a batch, its operations
 pub record Frame (A : Type 0) : Type 0 where
   pub start : ℕ
   pub sequence : ℕ
-  pub batch : Bool
+  pub shape : Shape
   pub operations : List (Operation A)
 
 -- how a log ends after its last good frame: in a tail that begins at a byte, or in a frame that is refused, at its first byte
@@ -47,8 +52,8 @@ pub data Outcome (A : Type 0) : Type 0 where
   reached : State A → ℕ → Outcome A
   stopped : Refusal → ℕ → Outcome A
 
--- the limits that replay meets: rows lent, records and bytes of a snapshot
-pub record Limits : Type 0 where
+-- the bounds that replay meets: rows lent, records and bytes of a snapshot
+pub record Bounds : Type 0 where
   pub rowsLent : ℕ
   pub maxRecords : ℕ
   pub maxBytes : ℕ
@@ -74,6 +79,11 @@ abbrev pub onward : {A : Type 0} → ℕ → Result (State A) → (State A → O
 onward start (answer s) next = next s
 onward start (refused why) next = stopped why start
 
+-- a delete of an inactive ID: 29 in a single frame, nothing in a batch
+abbrev pub absent : {A : Type 0} → Shape → List A → Result (List A)
+absent Single records = refused InactiveDelete
+absent Batch records = answer records
+
 module _ {A : Type 0} (K : Kind A) where
   -- the record is live and bears this ID
   abbrev pub liveAs : ℕ → A → Bool
@@ -98,43 +108,42 @@ module _ {A : Type 0} (K : Kind A) where
   size (r ∷ rs) = K .sizeOf r + size rs
 
   -- a put first marks the old node of its ID deleted, adds its size, then 28, then 19, then appends a node
-  unfoldable pub applyPut : Limits → A → List A → Result (List A)
-  applyPut limits r records = do
-    _ ← refuse storageLimits (leb (limits .maxRecords) (length records))
-    _ ← refuse storageLimits (ltb (limits .maxBytes) (size (mark (K .idOf r) records) + K .sizeOf r + 56))
-    _ ← refuse tooFewRows (leb (limits .rowsLent) (length records))
+  unfoldable pub applyPut : Bounds → A → List A → Result (List A)
+  applyPut bounds r records = do
+    _ ← refuse StorageLimits (leb (bounds .maxRecords) (length records))
+    _ ← refuse StorageLimits (ltb (bounds .maxBytes) (snapshotLength (size (mark (K .idOf r) records) + K .sizeOf r)))
+    _ ← refuse TooFewRows (leb (bounds .rowsLent) (length records))
     answer (mark (K .idOf r) records ++ (r ∷ []))
 
-  -- a delete marks the live node of its ID; of an inactive ID it is 29 in a single frame, and does nothing in a batch
-  unfoldable pub applyRemove : Bool → ℕ → List A → Result (List A)
-  applyRemove batch id records =
-      cond (active id records) (answer (mark id records)) (cond batch (answer records) (refused inactiveDelete))
+  -- a delete marks the live node of its ID
+  unfoldable pub applyRemove : Shape → ℕ → List A → Result (List A)
+  applyRemove shape id records = cond (active id records) (answer (mark id records)) (absent shape records)
 
-  abbrev pub applyOne : Limits → Bool → Operation A → List A → Result (List A)
-  applyOne limits batch (put r) records = applyPut limits r records
-  applyOne limits batch (remove id) records = applyRemove batch id records
+  abbrev pub applyOne : Bounds → Shape → Operation A → List A → Result (List A)
+  applyOne bounds shape (put r) records = applyPut bounds r records
+  applyOne bounds shape (remove id) records = applyRemove shape id records
 
   -- operations in order
-  unfoldable pub applyAll : Limits → Bool → List (Operation A) → List A → Result (List A)
-  applyAll limits batch [] records = answer records
-  applyAll limits batch (o ∷ os) records = applyOne limits batch o records >>= applyAll limits batch os
+  unfoldable pub applyAll : Bounds → Shape → List (Operation A) → List A → Result (List A)
+  applyAll bounds shape [] records = answer records
+  applyAll bounds shape (o ∷ os) records = applyOne bounds shape o records >>= applyAll bounds shape os
 
   -- a frame that comes after the snapshot: 27 where it is not the next, then its operations
-  unfoldable pub replayFrame : Limits → Frame A → State A → Result (State A)
-  replayFrame limits f s = do
-    _ ← refuse gapAfterSnapshot (not (eqb (f .sequence) (s .sequence + 1)))
-    records ← applyAll limits (f .batch) (f .operations) (s .records)
+  unfoldable pub replayFrame : Bounds → Frame A → State A → Result (State A)
+  replayFrame bounds f s = do
+    _ ← refuse GapAfterSnapshot (not (eqb (f .sequence) (s .sequence + 1)))
+    records ← applyAll bounds (f .shape) (f .operations) (s .records)
     answer (play f s records)
 
   -- one frame: at or below the snapshot's sequence it counts as skipped, otherwise it is replayed
-  unfoldable pub step : Limits → ℕ → Frame A → State A → Result (State A)
-  step limits snapshot f s = cond (leb (f .sequence) snapshot) (answer (skip s)) (replayFrame limits f s)
+  unfoldable pub step : Bounds → ℕ → Frame A → State A → Result (State A)
+  step bounds snapshot f s = cond (leb (f .sequence) snapshot) (answer (skip s)) (replayFrame bounds f s)
 
   -- all frames in order, then the log's end
-  unfoldable pub run : Limits → ℕ → List (Frame A) → End → State A → Outcome A
-  run limits snapshot [] end s = finish end s
-  run limits snapshot (f ∷ fs) end s = onward (f .start) (step limits snapshot f s) (run limits snapshot fs end)
+  unfoldable pub run : Bounds → ℕ → List (Frame A) → End → State A → Outcome A
+  run bounds snapshot [] end s = finish end s
+  run bounds snapshot (f ∷ fs) end s = onward (f .start) (step bounds snapshot f s) (run bounds snapshot fs end)
 
   -- replay over a snapshot's records: the whole log
-  unfoldable pub replay : Limits → ℕ → List A → Frames A → Outcome A
-  replay limits snapshot records log = run limits snapshot (log .frames) (log .ended) (begins snapshot records)
+  unfoldable pub replay : Bounds → ℕ → List A → Frames A → Outcome A
+  replay bounds snapshot records log = run bounds snapshot (log .frames) (log .ended) (begins snapshot records)

@@ -1,55 +1,46 @@
 -- Lent tables: rows as words, the active nodes by rising ID, and zeros after.
-use Prim.Native.Nat.{ℕ, zero, suc, _+_, _*_, _-_}
-use mathlib.Core.Bool.{Bool, true, false, cond}
+use Prim.Native.Nat.{ℕ, zero, suc, _-_}
+use mathlib.Core.Bool.{cond}
 use mathlib.Core.List.{List, [], _∷_, _++_}
 use lib.ListN.{length, replicate}
-use lib.Dec.{ltb}
 use Rattle.rows.specs.Rows.{rowWord, rowAt}
-use Rattle.rows.specs.declared.Row as Packed
-use Rattle.meaning.specs.Rows.{Row}
-
--- a row, as the words pack it
-abbrev pub packedRow : Row → Packed.Row
-packedRow r = record { id = record { 0 = r .id }; deleted = r .deleted; «from_log» = r .fromLog; caption = r .caption; at = r .at }
-
-abbrev pub unpackedRow : Packed.Row → Row
-unpackedRow r = record { id = r .id .0; deleted = r .deleted; fromLog = r .«from_log»; caption = r .caption; at = r .at }
+use Rattle.rows.specs.declared.Row.{Row}
+use Rattle.sorting.specs.Sorting.{sortedNodes}
 
 -- two words a row: the ID, then the packed word
 unfoldable pub rowWords : List Row → List ℕ
 rowWords [] = []
-rowWords (r ∷ rs) = r .id ∷ rowWord (packedRow r) ∷ rowWords rs
+rowWords (r ∷ rs) = r .id .0 ∷ rowWord r ∷ rowWords rs
 
 -- the n rows of a table that is handed in, from node k on
 unfoldable pub rowsFrom : ℕ → ℕ → List ℕ → List Row
 rowsFrom zero k words = []
-rowsFrom (suc n) k words = unpackedRow (rowAt words k) ∷ rowsFrom n (suc k) words
+rowsFrom (suc n) k words = rowAt words k ∷ rowsFrom n (suc k) words
 
 abbrev pub rowsIn : ℕ → List ℕ → List Row
 rowsIn n words = rowsFrom n 0 words
 
--- a live node and its ID
-pub record Entry : Type 0 where
-  pub id : ℕ
-  pub node : ℕ
+-- the live nodes in node order, among rows that begin at node k
+unfoldable pub liveFrom : ℕ → List Row → List ℕ
+liveFrom k [] = []
+liveFrom k (r ∷ rs) = cond (r .deleted) (liveFrom (suc k) rs) (k ∷ liveFrom (suc k) rs)
 
--- an entry goes before the first of a larger ID
-unfoldable pub insert : Entry → List Entry → List Entry
-insert e [] = e ∷ []
-insert e (x ∷ xs) = cond (ltb (e .id) (x .id)) (e ∷ x ∷ xs) (x ∷ insert e xs)
+abbrev pub liveNodes : List Row → List ℕ
+liveNodes rows = liveFrom 0 rows
 
--- the live nodes from node k on, by rising ID
-unfoldable pub entriesFrom : ℕ → List Row → List Entry
-entriesFrom k [] = []
-entriesFrom k (r ∷ rs) = cond (r .deleted) (entriesFrom (suc k) rs) (insert (record { id = r .id; node = k }) (entriesFrom (suc k) rs))
-
-unfoldable pub nodesOf : List Entry → List ℕ
-nodesOf [] = []
-nodesOf (e ∷ es) = e .node ∷ nodesOf es
-
+-- the live nodes by rising ID
 abbrev pub activeNodes : List Row → List ℕ
-activeNodes rows = nodesOf (entriesFrom 0 rows)
+activeNodes rows = sortedNodes (rowWords rows) (liveNodes rows)
 
 -- a table of n words with these first, and zeros after; an accepted reading never has more than n
 abbrev pub filled : ℕ → List ℕ → List ℕ
 filled n words = words ++ replicate (n - length words) 0
+
+-- row words and active entries
+pub record Tables : Type 0 where
+  pub rows : List ℕ
+  pub active : List ℕ
+
+-- a row per record, the active nodes by rising ID, and zeros after; as long as what was lent
+abbrev pub tablesFor : List ℕ → List ℕ → List Row → Tables
+tablesFor words entries rows = record { rows = filled (length words) (rowWords rows); active = filled (length entries) (activeNodes rows) }

@@ -1,12 +1,12 @@
 // The encoders behind C names, for bench/ to time, with the settings that `Config::new` gives.
 use config::Config;
-use encoder::Encoded;
+use refusal::Written;
 
 // A refusal has the highest bit.
-fn told(e: Encoded) -> u64 {
-    match e {
-        Encoded::Bytes(n) => n as u64,
-        Encoded::Refused(r) => 9_223_372_036_854_775_808 + (r as u64),
+fn told(w: Written) -> u64 {
+    match w {
+        Written::Bytes(n) => n as u64,
+        Written::Refused(r) => 9_223_372_036_854_775_808 + (r.number() as u64),
     }
 }
 

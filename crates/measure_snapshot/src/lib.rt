@@ -1,7 +1,7 @@
 // The snapshot's reading and writing behind C names, for bench/ to time.
 use config::Config;
+use refusal::Written;
 use snapshot::ReadSnapshot;
-use writer::Written;
 
 // `refused` is 0, or the refusal, and then the rest is 0.
 #[repr(C)]
@@ -29,8 +29,8 @@ pub extern "C" fn measure_read_snapshot(
             active: info.active as u64,
             size: info.size as u64,
         },
-        ReadSnapshot::Refused(n) => Told {
-            refused: n as u64,
+        ReadSnapshot::Refused(why) => Told {
+            refused: why.number() as u64,
             sequence: 0,
             crc: 0,
             records: 0,
@@ -53,6 +53,6 @@ pub extern "C" fn measure_write_snapshot<'a>(
 ) -> u64 {
     match writer::write_snapshot(Config::new(d), sequence, rows, count, snapshot, log, out) {
         Written::Bytes(n) => n as u64,
-        Written::Refused(r) => 9_223_372_036_854_775_808 + (r as u64),
+        Written::Refused(why) => 9_223_372_036_854_775_808 + (why.number() as u64),
     }
 }

@@ -27,10 +27,10 @@ pub extern "C" fn lambspool_delete_frame(sequence: u64, id: u64, out: &mut [u8])
     if sequence == 0 {
         return 0;
     }
-    if out.len() < 29 {
+    if out.len() < layout::DELETE_FRAME {
         return 0;
     }
-    frames::write_delete(&mut out[8..], sequence, id);
-    frames::seal(out, 17);
-    29
+    frames::write_delete(&mut out[layout::FRAME_HEAD..], sequence, id);
+    frames::seal(out, layout::DELETE_FRAME - layout::FRAME_AROUND);
+    layout::DELETE_FRAME
 }

@@ -1,9 +1,13 @@
 pub mod OneAnswer
 pub mod Leaves
+pub mod PastTheEnd
 pub mod Store
 pub mod Playout
+pub mod Helpers
 pub mod Output
 pub mod WrittenFile
-pub mod EncodedFrame
-pub mod DeleteFrame
 pub mod ReadAndWritten
+pub mod DeleteFrame
+pub mod EncodedFrame
+pub mod SumsAtTheEdges
+pub mod Promises

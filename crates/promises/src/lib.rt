@@ -1,1 +1,1 @@
-// What the contracts of the code amount to. See specs/.
+// What the contracts of the code amount to: specs/ states it, and proofs/Proved.antt proves it all.

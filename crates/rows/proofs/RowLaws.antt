@@ -16,22 +16,22 @@ use Rattle.rows.proofs.PackedLaws.{packed-below, fields-of-packed, pack
 
 -- ---- plain arithmetic
 
-pub row-word-sum : (r : Row) → rowWord r ≡ bit (r .deleted) * 9223372036854775808 + bit (r .«from_log») * 4611686018427387904 + r .caption * 140737488355328 + r .at
+pub row-word-sum : (r : Row) → rowWord r ≡ bit (r .deleted) * 9223372036854775808 + bit (r .«from_log») * 4611686018427387904 + r .«caption_length» * 140737488355328 + r .at
 unfolding rowWord rowValues packed total
 row-word-sum r = omega arith
 
 pub row-of-parts : (id w : ℕ)
     → rowOf id w
-    ≡ record { id = record { 0 = id }; deleted = eqb (w / 9223372036854775808 % 2) 1; «from_log» = eqb (w / 4611686018427387904 % 2) 1; caption = w / 140737488355328 % 32768; at = w % 140737488355328 }
+    ≡ record { id = record { 0 = id }; deleted = eqb (w / 9223372036854775808 % 2) 1; «from_log» = eqb (w / 4611686018427387904 % 2) 1; «caption_length» = w / 140737488355328 % 32768; at = w % 140737488355328 }
 unfolding rowOf rowFrom fields total
 row-of-parts id w = simp div-one
 
-pub operation-word-sum : (o : Operation) → operationWord o ≡ bit (o .put) * 9223372036854775808 + o .caption * 281474976710656 + o .at
+pub operation-word-sum : (o : Operation) → operationWord o ≡ bit (o .put) * 9223372036854775808 + o .«caption_length» * 281474976710656 + o .at
 unfolding operationWord operationValues packed total
 operation-word-sum o = omega arith
 
 pub operation-of-parts : (id w : ℕ)
-    → operationOf id w ≡ record { id = record { 0 = id }; put = eqb (w / 9223372036854775808 % 2) 1; caption = w / 281474976710656 % 32768; at = w % 281474976710656 }
+    → operationOf id w ≡ record { id = record { 0 = id }; put = eqb (w / 9223372036854775808 % 2) 1; «caption_length» = w / 281474976710656 % 32768; at = w % 281474976710656 }
 unfolding operationOf operationFrom fields total
 operation-of-parts id w = simp div-one
 
@@ -124,6 +124,6 @@ row-at-set-row-other rows i j r n =
 
 -- ---- P12: deleted 0, source 1, caption length 2, offset 64
 
-pub p12 : (id : ℕ) → rowWord (record { id = record { 0 = id }; deleted = false; «from_log» = true; caption = 2; at = 64 }) ≡ 4611967493404098624
+pub p12 : (id : ℕ) → rowWord (record { id = record { 0 = id }; deleted = false; «from_log» = true; «caption_length» = 2; at = 64 }) ≡ 4611967493404098624
 unfolding rowWord rowValues packed total
 p12 id = refl

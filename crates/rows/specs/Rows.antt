@@ -22,7 +22,7 @@ bit false = 0
 
 -- a row's values in the order of `rowWidths`; source 1 is the log
 unfoldable pub rowValues : Row → List ℕ
-rowValues r = bit (r .deleted) ∷ bit (r .«from_log») ∷ r .caption ∷ r .at ∷ []
+rowValues r = bit (r .deleted) ∷ bit (r .«from_log») ∷ r .«caption_length» ∷ r .at ∷ []
 
 -- the row of an ID and such values
 unfoldable pub rowFrom : ℕ → List ℕ → Row
@@ -31,7 +31,7 @@ rowFrom id vs =
       id = record { 0 = id };
       deleted = eqb (getD vs 0 0) 1;
       «from_log» = eqb (getD vs 1 0) 1;
-      caption = getD vs 2 0;
+      «caption_length» = getD vs 2 0;
       at = getD vs 3 0;
     }
 
@@ -44,7 +44,7 @@ rowOf id w = rowFrom id (fields rowWidths w)
 
 -- caption length and offset keep to their widths
 pub record RowFits (r : Row) : Type 0 where
-  pub caption-fits : r .caption < 2 ^ getD rowWidths 2 0
+  pub caption-fits : r .«caption_length» < 2 ^ getD rowWidths 2 0
   pub at-fits : r .at < 2 ^ getD rowWidths 3 0
 
 -- the row of node i, and the table after a row is put there
@@ -56,10 +56,10 @@ setRow rows i r = set (set rows (2 * i) (r .id .0)) (2 * i + 1) (rowWord r)
 
 -- the same of operations
 unfoldable pub operationValues : Operation → List ℕ
-operationValues o = bit (o .put) ∷ o .caption ∷ o .at ∷ []
+operationValues o = bit (o .put) ∷ o .«caption_length» ∷ o .at ∷ []
 
 unfoldable pub operationFrom : ℕ → List ℕ → Operation
-operationFrom id vs = record { id = record { 0 = id }; put = eqb (getD vs 0 0) 1; caption = getD vs 1 0; at = getD vs 2 0 }
+operationFrom id vs = record { id = record { 0 = id }; put = eqb (getD vs 0 0) 1; «caption_length» = getD vs 1 0; at = getD vs 2 0 }
 
 unfoldable pub operationWord : Operation → ℕ
 operationWord o = packed operationWidths (operationValues o)
@@ -68,7 +68,7 @@ unfoldable pub operationOf : ℕ → ℕ → Operation
 operationOf id w = operationFrom id (fields operationWidths w)
 
 pub record OperationFits (o : Operation) : Type 0 where
-  pub caption-fits : o .caption < 2 ^ getD operationWidths 1 0
+  pub caption-fits : o .«caption_length» < 2 ^ getD operationWidths 1 0
   pub at-fits : o .at < 2 ^ getD operationWidths 2 0
 
 unfoldable pub operationAt : List ℕ → ℕ → Operation

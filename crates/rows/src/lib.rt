@@ -13,20 +13,20 @@ pub struct Node(pub u32);
 // The application's number.
 pub struct Id(pub u64);
 
-// `caption` is a length; `at` is the offset of the first coordinate byte in the log, or in the snapshot.
+// `at` is the offset of the first coordinate byte in the log, or in the snapshot.
 pub struct Row {
     pub id: Id,
     pub deleted: bool,
     pub from_log: bool,
-    pub caption: usize,
+    pub caption_length: usize,
     pub at: usize,
 }
 
-// `caption` is a length; `at` is the caption's offset in its buffer.
+// `at` is the caption's offset in its buffer.
 pub struct Operation {
     pub id: Id,
     pub put: bool,
-    pub caption: usize,
+    pub caption_length: usize,
     pub at: usize,
 }
 
@@ -56,7 +56,7 @@ impl Row {
         ensures { λ r. ⌜ r ≡ rowWord self ⌝ }
     {
         let high = bit_of(self.deleted) * ROW_DELETED + bit_of(self.from_log) * ROW_SOURCE;
-        high + (self.caption as u64) * ROW_CAPTION + (self.at as u64)
+        high + (self.caption_length as u64) * ROW_CAPTION + (self.at as u64)
     }
 
     pub fn unpack(id: Id, word: u64) -> Row
@@ -66,7 +66,7 @@ impl Row {
             id,
             deleted: word / ROW_DELETED % 2 == 1,
             from_log: word / ROW_SOURCE % 2 == 1,
-            caption: (word / ROW_CAPTION % CAPTION_LENGTHS) as usize,
+            caption_length: (word / ROW_CAPTION % CAPTION_LENGTHS) as usize,
             at: (word % ROW_CAPTION) as usize,
         }
     }
@@ -79,7 +79,7 @@ impl Operation {
         ensures { λ r. ⌜ r ≡ operationWord self ⌝ }
     {
         bit_of(self.put) * OPERATION_PUT
-            + (self.caption as u64) * OPERATION_CAPTION
+            + (self.caption_length as u64) * OPERATION_CAPTION
             + (self.at as u64)
     }
 
@@ -89,7 +89,7 @@ impl Operation {
         Operation {
             id,
             put: word / OPERATION_PUT % 2 == 1,
-            caption: (word / OPERATION_CAPTION % CAPTION_LENGTHS) as usize,
+            caption_length: (word / OPERATION_CAPTION % CAPTION_LENGTHS) as usize,
             at: (word % OPERATION_CAPTION) as usize,
         }
     }

@@ -1,11 +1,6 @@
-pub mod ToldLaws
+pub mod Inverses
 pub mod HeaderLaws
-pub mod ItemLaws
 pub mod RecordLaws
-pub mod RowWords
 pub mod Reading
 pub mod BodyLaws
-pub mod Listing
-pub mod ZeroTail
-pub mod ActiveLaws
-pub mod FinishLaws
+pub mod Outcome

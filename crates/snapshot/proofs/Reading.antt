@@ -4,30 +4,26 @@ use native.Mathlib.Omega.{arith}
 use mathlib.Core.Path.{_≡_, refl, sym, ap, _∙_}
 use mathlib.Core.List.{List, [], _∷_, _++_, append-assoc, append-nil}
 use lib.ListN.{length, drop, length-append}
-use Rattle.config.specs.Limits.{maxSnapshotBytes}
 use Rattle.config.specs.declared.Config.{Config}
 use Rattle.rows.specs.Rows.{setRow}
-use Rattle.meaning.specs.Refusal.{Refusal, Result, answer, refused, _>>=_}
+use Rattle.rows.specs.declared.Row.{Row}
+use Rattle.refusal.specs.Refusal.{Result, answer, refused, _>>=_}
+use Rattle.refusal.specs.declared.Refusal.{Refusal}
+use Rattle.refusal.proofs.Results.{go-on, give-up}
+use Rattle.layout.specs.Layout.{recordLength}
 use Rattle.meaning.specs.Replay.{size}
-use Rattle.meaning.specs.Rows.{Row, rowKind, encoded}
+use Rattle.meaning.specs.Records.{rowKind}
 use Rattle.meaning.specs.Snapshot.{ReadRow, recordAt, ReadRows, recordsAt}
-use Rattle.meaning.specs.Tables.{packedRow, unpackedRow, rowWords}
-use Rattle.snapshot.specs.declared.ReadRecord.{ReadRecord}
-use Rattle.snapshot.specs.declared.ReadRecords.{ReadRecords}
-use Rattle.snapshot.specs.Told.{recordTold, recordsTold}
-use Rattle.snapshot.specs.declared.ReadRecord.the-variants as Records
-use Rattle.snapshot.specs.declared.ReadRecords.the-variants as AllRecords
-use Rattle.meaning.proofs.Results.{go-on}
+use Rattle.meaning.specs.Tables.{rowWords}
+use Rattle.meaning.proofs.RowWords.{set-row-next}
 use Rattle.snapshot.proofs.RecordLaws.{record-within}
-use Rattle.meaning.proofs.RowWords.{Packs}
-use Rattle.snapshot.proofs.RowWords.{set-row-next}
 
 -- rows put before those of a result
 abbrev pub onto : List Row → Result ReadRows → Result ReadRows
 onto done r = r >>= (λ x. answer (record { rows = done ++ x .rows; next = x .next }))
 
 -- a record, then the rest
-abbrev pub with-rest : Row → Result ReadRows → Result ReadRows
+abbrev with-rest : Row → Result ReadRows → Result ReadRows
 with-rest y r = r >>= (λ rest. answer (record { rows = y ∷ rest .rows; next = rest .next }))
 
 onto-none : (r : Result ReadRows) → r ≡ onto [] r
@@ -38,7 +34,7 @@ onto-more : (done : List Row) (y : Row) (r : Result ReadRows) → onto done (wit
 onto-more done y (answer x) = ap (λ (l : List Row). answer (record { rows = l; next = x .next })) (sym (append-assoc done (y ∷ []) (x .rows)))
 onto-more done y (refused why) = refl
 
-size-snoc : (d : ℕ) (rows : List Row) (r : Row) → size (rowKind d) (rows ++ (r ∷ [])) ≡ size (rowKind d) rows + encoded d (r .caption)
+size-snoc : (d : ℕ) (rows : List Row) (r : Row) → size (rowKind d) (rows ++ (r ∷ [])) ≡ size (rowKind d) rows + recordLength d (r .«caption_length»)
 unfolding size
 size-snoc d [] r = omega arith
 size-snoc d (x ∷ xs) r = let h = size-snoc d xs r in omega arith
@@ -50,7 +46,7 @@ module _ (c : Config) (s : List ℕ) (end : ℕ) where
   records-over zero at h = refl
   records-over (suc n) at h = absurd (omega arith)
 
-  pub records-turn : (n at : ℕ) → 0 < n
+  records-turn : (n at : ℕ) → 0 < n
       → recordsAt n c s end at ≡ recordAt c s end at >>= (λ y. with-rest (y .row) (recordsAt (n - 1) c s end (y .next)))
   unfolding recordsAt
   records-turn zero at h = absurd (omega arith)
@@ -88,8 +84,8 @@ module _ (c : Config) (s : List ℕ) (end first count : ℕ) (rows₀ : List ℕ
 
   -- the next record is accepted
   pub reading-more : (rows : List ℕ) (at total i : ℕ) → Reading c s end first count rows₀ rows at total i → i < count → 2 * count ≤ length rows₀
-      → (y : ReadRow) → recordAt c s end at ≡ answer y → (rows′ : List ℕ) → length rows′ ≡ length rows → rows′ ≡ setRow rows i (packedRow (y .row))
-      → Reading c s end first count rows₀ rows′ (y .next) (total + encoded (c .dimensions) (y .row .caption)) (i + 1)
+      → (y : ReadRow) → recordAt c s end at ≡ answer y → (rows′ : List ℕ) → length rows′ ≡ length rows → rows′ ≡ setRow rows i (y .row)
+      → Reading c s end first count rows₀ rows′ (y .next) (total + recordLength (c .dimensions) (y .row .«caption_length»)) (i + 1)
   reading-more rows at total i k h room y e rows′ n is =
       let w = record-within c s end at y e in
       let sized = k .sized in
@@ -109,8 +105,8 @@ module _ (c : Config) (s : List ℕ) (end first count : ℕ) (rows₀ : List ℕ
         same-length = n ∙ k .same-length;
         done = k .done ++ (r ∷ []);
         counted = length-append (k .done) (r ∷ []) ∙ ap (λ (j : ℕ). j + 1) counted;
-        total-is = ap (λ (j : ℕ). j + encoded d (r .caption)) (k .total-is) ∙ sym (size-snoc d (k .done) r);
-        words = is ∙ ap (λ (l : List ℕ). setRow l i (packedRow r)) (k .words) ∙ set-row-next (k .done) r rows₀ i counted (omega arith);
+        total-is = ap (λ (j : ℕ). j + recordLength d (r .«caption_length»)) (k .total-is) ∙ sym (size-snoc d (k .done) r);
+        words = is ∙ ap (λ (l : List ℕ). setRow l i r) (k .words) ∙ set-row-next (k .done) r rows₀ i counted (omega arith);
         whole = k .whole ∙ ap (onto (k .done)) turn ∙ onto-more (k .done) r (recordsAt (count - (i + 1)) c s end (y .next));
       }
 
@@ -122,29 +118,8 @@ module _ (c : Config) (s : List ℕ) (end first count : ℕ) (rows₀ : List ℕ
       ∙ ap (onto (k .done)) (records-over c s end (count - i) at (omega arith))
       ∙ ap (λ (l : List Row). answer (record { rows = l; next = at })) (append-nil (k .done))
 
--- the row of an accepted record can be packed
-pub record-packs : (c : Config) (s : List ℕ) (end at : ℕ) (y : ReadRow) → end ≤ maxSnapshotBytes → recordAt c s end at ≡ answer y → Packs (y .row)
-record-packs c s end at y h e =
-    let w = record-within c s end at y e in
-    let few = w .caption-few in
-    let offset = w .offset-inside in
-    record { caption-fits = omega arith; at-fits = omega arith }
-
--- ---- what a record's answer leads to
-abbrev pub afterRecord : (ReadRow → ReadRecords) → ReadRecord → ReadRecords
-afterRecord more (Records.Found row next) = more (record { row = unpackedRow row; next = next })
-afterRecord more (Records.Refused n) = AllRecords.Refused n
-
-pub after-record : (d : ℕ) (done : List Row) (g : ReadRow → Result ReadRows) (x : Result ReadRow)
-    → recordsTold d (onto done (x >>= g)) ≡ afterRecord (λ y. recordsTold d (onto done (g y))) (recordTold x)
-after-record d done g (answer y) = refl
-after-record d done g (refused why) = refl
-
-abbrev backRecord : ReadRecord → Result ReadRow
-backRecord (Records.Found row next) = answer (record { row = unpackedRow row; next = next })
-backRecord (Records.Refused n) = refused Refusal.pastTheEnd
-
-pub record-answer : (x : Result ReadRow) (row : _) (next : ℕ) → recordTold x ≡ Records.Found row next
-    → x ≡ answer (record { row = unpackedRow row; next = next })
-record-answer (answer y) row next e = ap backRecord e
-record-answer (refused why) row next e = absurd (let z : _≡_ {A = ℕ} 0 1 = cc in omega arith)
+  -- the next record is refused
+  pub reading-refused : (rows : List ℕ) (at total i : ℕ) → Reading c s end first count rows₀ rows at total i → i < count
+      → (why : Refusal) → recordAt c s end at ≡ refused why → recordsAt count c s end first ≡ refused why
+  reading-refused rows at total i k h why e =
+      k .whole ∙ ap (onto (k .done)) (records-turn c s end (count - i) at (omega arith) ∙ give-up (recordAt c s end at) _ why e)

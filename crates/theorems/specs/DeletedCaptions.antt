@@ -1,21 +1,26 @@
--- The captions of deleted records do not count: two accepted snapshots that differ in nothing else are read alike.
-use Prim.Native.Nat.{ℕ, _+_, _<_, _^_}
-use mathlib.Core.Path.{_≡_, refl, sym, ap, ap₂, subst, subst₂, _∙_}
-use mathlib.Core.Bool.{Bool, true, false, cond}
-use mathlib.Core.List.{List, [], _∷_, map}
-use native.Mathlib.Omega.{arith}
-use lib.ListN.{length, length-map}
+-- The captions of deleted records do not count: two accepted snapshots that differ in nothing else, lengths included, recover with one
+-- log and equal tables lent to the same answer, the same records and the same tables, snapshot CRC and row offsets excepted.
+use Prim.Native.Nat.{ℕ}
+use mathlib.Core.Path.{_≡_}
+use mathlib.Core.List.{List, map}
+use lib.ListN.{length}
+use Rattle.fields.specs.Fields.{num, Bytes}
 use Rattle.config.specs.declared.Config.{Config}
-use Rattle.meaning.specs.Refusal.{answer}
-use Rattle.meaning.specs.Rows.{Row, Record, seen}
-use Rattle.meaning.specs.Snapshot.{Version, two, firstOf, Snapshot, readSnapshot}
-use Rattle.meaning.specs.File.{recordBytes, fileOf}
-use Rattle.theorems.specs.Every.{Every}
-use Rattle.theorems.specs.RecordBack.{all-shaped, Shaped, asRead, rowsFrom, length-rows, records-seen}
-use Rattle.theorems.specs.HeaderBack.{HeaderFits}
-use Rattle.theorems.specs.FileBack.{fileWith, file-with-two, records-here, snapshotOf}
-use Rattle.theorems.specs.FileRead.{file-read}
-use Rattle.theorems.specs.RawFile.{RawFile, raw-seen}
+use Rattle.refusal.specs.Refusal.{answer}
+use Rattle.layout.specs.declared.Version.{Version}
+use Rattle.rows.specs.Lent.{rowsLent}
+use Rattle.rows.specs.Rows.{rowAt}
+use Rattle.rows.specs.declared.Row.{Row}
+use Rattle.meaning.specs.Every.{Every}
+use Rattle.meaning.specs.Records.{Record, seen}
+use Rattle.meaning.specs.Snapshot.{Snapshot, readSnapshot}
+use Rattle.meaning.specs.File.{fileOf}
+use Rattle.meaning.specs.Tables.{Tables, activeNodes}
+use Rattle.meaning.specs.Recovery.{Recovered, Recovery, recovered, refusedSnapshot, refusedLog, recover, rowsOf}
+use Rattle.meaning.specs.Calls.{RecoveryTold, recoveryTold, recoverCall, recoverTables}
+use Rattle.theorems.specs.Compared.{compared}
+use Rattle.theorems.specs.FileRows.{asRead}
+use Rattle.theorems.specs.AnyFile.{fileWith, HeaderFits, Shaped}
 
 -- two files of one version, settings and sequence, whose records, as raw bytes, differ at most in the captions of deleted ones
 pub record DifferInDeleted (s s' : List ℕ) : Type 0 where
@@ -33,89 +38,62 @@ pub record DifferInDeleted (s s' : List ℕ) : Type 0 where
 
 -- a row without its place
 abbrev pub placeless : Row → Row
-placeless r = record { id = r .id; deleted = r .deleted; fromLog = r .fromLog; caption = r .caption; at = 0 }
+placeless r = record { id = r .id; deleted = r .deleted; «from_log» = r .«from_log»; «caption_length» = r .«caption_length»; at = 0 }
 
--- the row that a record has, without a place
-abbrev pub rowOf : Record → Row
-rowOf r = record { id = r .id; deleted = r .deleted; fromLog = false; caption = length (r .caption); at = 0 }
+-- an answer without snapshot CRC and row offsets. Its counts, size and active nodes are those of the rows without their places
+abbrev pub withoutPlaces : Recovery → Recovery
+withoutPlaces (recovered r) =
+    recovered
+    (record {
+      config = r .config;
+      crc = 0;
+      state = record {
+        records = map placeless (r .state .records);
+        sequence = r .state .sequence;
+        replayed = r .state .replayed;
+        skipped = r .state .skipped;
+      };
+      keep = r .keep;
+    })
+withoutPlaces (refusedSnapshot why) = refusedSnapshot why
+withoutPlaces (refusedLog why at) = refusedLog why at
 
-rows-of : (at : ℕ) (rs : List Record) → map placeless (rowsFrom at rs) ≡ map rowOf (map asRead rs)
-unfolding rowsFrom
-rows-of at [] = refl
-rows-of at (r ∷ rs) = ap (λ (l : List Row). rowOf (asRead r) ∷ l) (rows-of (at + length (recordBytes r)) rs)
-
-pub record ReadAlike (s s' : List ℕ) (x y : Snapshot) : Type 0 where
-  pub same-config : x .config ≡ y .config
-  pub same-sequence : x .sequence ≡ y .sequence
-  pub same-count : length (x .rows) ≡ length (y .rows)
-  pub same-rows : map placeless (x .rows) ≡ map placeless (y .rows)
-  pub same-records : (log : List ℕ) → map (seen (x .config .dimensions) s log) (x .rows) ≡ map (seen (y .config .dimensions) s' log) (y .rows)
-
-alike : (v : Version) (c : Config) (q : ℕ) (rs rs' : List Record) → Every (Shaped (c .dimensions)) rs → Every (Shaped (c .dimensions)) rs'
-    → map asRead rs ≡ map asRead rs' → ReadAlike (fileWith v c q rs) (fileWith v c q rs') (snapshotOf v c q rs) (snapshotOf v c q rs')
-alike v c q rs rs' k k' same =
-    let at = firstOf v in
+abbrev pub withoutCrc : RecoveryTold → RecoveryTold
+withoutCrc t =
     record {
-      same-config = refl;
-      same-sequence = refl;
-      same-count = length-rows at rs ∙ sym (length-map rs asRead) ∙ ap length same ∙ length-map rs' asRead ∙ sym (length-rows at rs');
-      same-rows = rows-of at rs ∙ ap (map rowOf) same ∙ sym (rows-of at rs');
-      same-records = λ log. records-seen (c .dimensions) (fileWith v c q rs) log at rs _ (records-here v c q rs) k ∙ same ∙ sym (records-seen (c .dimensions) (fileWith v c q rs') log at rs' _ (records-here v c q rs') k');
+      config = t .config;
+      crc = 0;
+      sequence = t .sequence;
+      records = t .records;
+      active = t .active;
+      replayed = t .replayed;
+      skipped = t .skipped;
+      keep = t .keep;
+      tail = t .tail;
+      size = t .size;
     }
 
-pub deleted-captions : (lent lent' : ℕ) (s s' : List ℕ) (x y : Snapshot) → DifferInDeleted s s'
-    → readSnapshot lent s ≡ answer x → readSnapshot lent' s' ≡ answer y → ReadAlike s s' x y
-deleted-captions lent lent' s s' x y k e e' =
-    let v = k .version in
-    let c = k .config in
-    let q = k .sequence in
-    let rs = k .records in
-    let rs' = k .records' in
-    let n : length rs ≡ length rs' = sym (length-map rs asRead) ∙ ap length (k .same) ∙ length-map rs' asRead in
-    let fits' : HeaderFits v c q (length rs') = subst (HeaderFits v c q) n (k .fits) in
-    let ex : x ≡ snapshotOf v c q rs = file-read lent v c q rs x (k .fits) (k .shaped) (ap (readSnapshot lent) (sym (k .is)) ∙ e) in
-    let ey : y ≡ snapshotOf v c q rs' = file-read lent' v c q rs' y fits' (k .shaped') (ap (readSnapshot lent') (sym (k .is')) ∙ e') in
-    let a = alike v c q rs rs' (k .shaped) (k .shaped') (k .same) in
-    let a1 = subst₂ (λ (l m : List ℕ). ReadAlike l m (snapshotOf v c q rs) (snapshotOf v c q rs')) (sym (k .is)) (sym (k .is')) a in
-    subst₂ (ReadAlike s s') (sym ex) (sym ey) a1
+-- the same tables, but for the places in the rows: as long, every row the same without its place, and the same entries
+pub record SameButPlaces (t t' : Tables) : Type 0 where
+  pub same-length : length (t .rows) ≡ length (t' .rows)
+  pub same-rows : (node : ℕ) → placeless (rowAt (t .rows) node) ≡ placeless (rowAt (t' .rows) node)
+  pub same-active : t .active ≡ t' .active
 
--- ---- the file written from an accepted version 2 snapshot is such a one
-as-read-twice : (rs : List Record) → map asRead rs ≡ map asRead (map asRead rs)
-as-read-twice [] = refl
-as-read-twice (r ∷ rs) = ap₂ (λ (l : List ℕ) (m : List Record). record { id = r .id; deleted = r .deleted; vector = r .vector; caption = l } ∷ m) (go (r .deleted)) (as-read-twice rs)
-  where
-    go : (t : Bool) → cond t [] (r .caption) ≡ cond t [] (cond t [] (r .caption))
-    go true = refl
-    go false = refl
-
-as-read-shaped : (d : ℕ) (rs : List Record) → Every (Shaped d) rs → Every (Shaped d) (map asRead rs)
-as-read-shaped d [] k = tt
-as-read-shaped d (r ∷ rs) k =
-    (record { id-fits = k .0 .id-fits; vector-length = k .0 .vector-length; caption-fits = go (r .deleted) }, as-read-shaped d rs (k .1))
-  where
-    go : (t : Bool) → length (cond t [] (r .caption)) < 256 ^ 4
-    go true = omega arith
-    go false = k .0 .caption-fits
-
-pub rewritten : (lent : ℕ) (s : List ℕ) (x : Snapshot) (log : List ℕ) → readSnapshot lent s ≡ answer x → (k : RawFile s x) → k .version ≡ two
-    → DifferInDeleted s (fileOf (x .config) (x .sequence) (map (seen (x .config .dimensions) s log) (x .rows)))
-rewritten lent s x log e k two-is =
-    let c = x .config in
-    let q = x .sequence in
-    let d = c .dimensions in
-    let rs = k .records in
-    let shaped = all-shaped c rs (k .readable) in
-    let seen-are : map (seen d s log) (x .rows) ≡ map asRead rs = raw-seen lent s x log e k in
-    record {
-      version = two;
-      config = c;
-      sequence = q;
-      records = rs;
-      records' = map asRead rs;
-      is = k .is ∙ ap (λ (v : Version). fileWith v c q rs) two-is;
-      is' = ap (fileOf c q) seen-are ∙ sym (file-with-two c q (map asRead rs));
-      fits = subst (λ (v : Version). HeaderFits v c q (length rs)) two-is (k .fits);
-      shaped = shaped;
-      shaped' = as-read-shaped d rs shaped;
-      same = as-read-twice rs;
-    }
+pub record DeletedCaptions : Type 0 where
+  -- the whole answer, but for snapshot CRC and row offsets
+  pub captions-answer : (lent : ℕ) (s s' log : List ℕ) (x y : Snapshot) → DifferInDeleted s s'
+      → readSnapshot lent s ≡ answer x → readSnapshot lent s' ≡ answer y → withoutPlaces (recover lent s log) ≡ withoutPlaces (recover lent s' log)
+  -- in the words of the answer: every value but the snapshot CRC, and the active entries
+  pub captions-told : (lent : ℕ) (s s' log : List ℕ) (x y : Snapshot) (r r' : Recovered) → DifferInDeleted s s'
+      → readSnapshot lent s ≡ answer x → readSnapshot lent s' ≡ answer y → recover lent s log ≡ recovered r → recover lent s' log ≡ recovered r'
+      → (withoutCrc (recoveryTold log r) ≡ withoutCrc (recoveryTold log r')) × (activeNodes (rowsOf r) ≡ activeNodes (rowsOf r'))
+  -- the same records
+  pub captions-records : (lent : ℕ) (s s' log : List ℕ) (x y : Snapshot) → Bytes log → DifferInDeleted s s'
+      → readSnapshot lent s ≡ answer x → readSnapshot lent s' ≡ answer y → compared s log (recover lent s log) ≡ compared s' log (recover lent s' log)
+  -- the tables after, whether recovery accepts or refuses
+  pub captions-tables : (words entries s s' log : List ℕ) (x y : Snapshot) → Bytes s → Bytes s' → Bytes log → DifferInDeleted s s'
+      → readSnapshot (rowsLent words entries) s ≡ answer x → readSnapshot (rowsLent words entries) s' ≡ answer y
+      → SameButPlaces (recoverTables words entries (recoverCall words entries s log)) (recoverTables words entries (recoverCall words entries s' log))
+  -- the file written of an accepted snapshot of version 2 differs from it in no more
+  pub rewritten : (lent : ℕ) (s : List ℕ) (x : Snapshot) (log : List ℕ) → Bytes s → readSnapshot lent s ≡ answer x → num s 8 4 ≡ 2
+      → DifferInDeleted s (fileOf (x .config) (x .sequence) (map (seen (x .config .dimensions) s log) (x .rows)))

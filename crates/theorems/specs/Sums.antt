@@ -1,25 +1,22 @@
--- The sums at the edges, P1 to P12 of document 01 but P10, which is the cache's, and its worked example: each computed on bytes.
-use Prim.Native.Nat.{ℕ, _+_, _*_, _-_}
-use mathlib.Core.Path.{_≡_, refl}
-use mathlib.Core.Bool.{Bool, true, false}
-use mathlib.Core.List.{List, [], _∷_, _++_}
-use lib.ListN.{length}
-use Rattle.crc32.specs.Crc.{crcOf, bytesIn, bitsIn, bitIn}
-use Rattle.utf8.specs.Utf8.{isUtf8, validFront, frontIn, charLength}
-use Rattle.coordinates.specs.Coordinates.{vectorOf, patterns, everyFinite, everyZero}
-use Rattle.config.specs.Settings.{settings, validityOf, inRange, readMetricOf}
-use Rattle.config.specs.declared.Metric.the-variants.{SquaredL2, Cosine}
-use Rattle.fields.specs.Fields.{le}
-use Rattle.rows.specs.Packed.{total, packed}
-use Rattle.rows.specs.Rows.{rowWord, rowValues}
-use Rattle.meaning.specs.Refusal.{Result, answer, refused, wrongLength, wrongCount, vectorAllZero, wrongSequence, gapAfterSnapshot}
-use Rattle.meaning.specs.Replay.{active, mark, size, applyPut, applyRemove, applyAll, replayFrame, step, run, replay}
-use Rattle.meaning.specs.Item.{coordinates, itemAt}
-use Rattle.meaning.specs.Snapshot.{Snapshot, readHeader, headerFor, recordAt, recordsAt, liveTwice, readSnapshot}
-use Rattle.meaning.specs.Log.{operationAt, operationsAt, batchAt, singleAt, payloadAt, lengthAt, frameAt, framesFrom, framesOf}
-use Rattle.meaning.specs.Recovery.{Recovered, Recovery, recovered, refusedSnapshot, refusedLog, recover, liveCount, tailLength}
+-- The sums at the edges, P1 to P12 of document 01 but P10, which is the cache's, and its worked example: each on bytes.
+use Prim.Native.Nat.{ℕ, _+_, _-_}
+use mathlib.Core.Path.{_≡_}
+use mathlib.Core.Bool.{true, false}
+use mathlib.Core.List.{List, [], _∷_}
+use Rattle.crc32.specs.Crc.{crcOf}
+use Rattle.utf8.specs.Utf8.{isUtf8}
+use Rattle.config.specs.Settings.{settings}
+use Rattle.config.specs.declared.Metric.the-variants.{SquaredL2}
+use Rattle.rows.specs.Rows.{rowWord}
+use Rattle.refusal.specs.Refusal.{answer, refused}
+use Rattle.refusal.specs.declared.Refusal.the-variants.{WrongLength, WrongCount, VectorAllZero, WrongSequence, GapAfterSnapshot}
+use Rattle.meaning.specs.Replay.{active, size}
+use Rattle.meaning.specs.Snapshot.{readSnapshot}
+use Rattle.meaning.specs.Log.{lengthAt}
+use Rattle.meaning.specs.Recovery.{Recovered, recovered, refusedLog, recover, tailLength}
 use Rattle.meaning.specs.Calls.{recoveryTold, recoverTables}
-use Rattle.meaning.specs.Tables.{rowWords, activeNodes, entriesFrom, insert, nodesOf, packedRow}
+use Rattle.meaning.specs.Tables.{rowWords, activeNodes}
+use Rattle.theorems.specs.Cut.{Cut, place}
 
 -- ---- the stores
 
@@ -64,28 +61,28 @@ withdrawnLog = 17 ∷ 0 ∷ 0 ∷ 0 ∷ 230 ∷ 239 ∷ 225 ∷ 201 ∷ 2 ∷ 3 
 
 -- ---- what they come to
 abbrev pub exampleRecovered : Recovered
-exampleRecovered = record { config = settings 1 16 200 42 SquaredL2; crc = 354460059; state = record { records = record { id = 7; deleted = true; fromLog = true; caption = 0; at = 25 } ∷ record { id = 7; deleted = false; fromLog = true; caption = 2; at = 64 } ∷ []; sequence = 2; replayed = 2; skipped = 0 }; keep = 78 }
+exampleRecovered = record { config = settings 1 16 200 42 SquaredL2; crc = 354460059; state = record { records = record { id = record { 0 = 7 }; deleted = true; «from_log» = true; «caption_length» = 0; at = 25 } ∷ record { id = record { 0 = 7 }; deleted = false; «from_log» = true; «caption_length» = 2; at = 64 } ∷ []; sequence = 2; replayed = 2; skipped = 0 }; keep = 78 }
 
 pub record Sums : Type 0 where
   pub p1 : crcOf [] ≡ 0
-  pub p2 : lengthAt (16 ∷ 0 ∷ 0 ∷ 0 ∷ 131 ∷ 136 ∷ 93 ∷ 113 ∷ []) 0 ≡ refused wrongLength
+  pub p2 : lengthAt (16 ∷ 0 ∷ 0 ∷ 0 ∷ 131 ∷ 136 ∷ 93 ∷ 113 ∷ []) 0 ≡ refused WrongLength
   pub p2-passes : lengthAt (17 ∷ 0 ∷ 0 ∷ 0 ∷ 230 ∷ 239 ∷ 225 ∷ 201 ∷ []) 0 ≡ answer 17
   pub p3 : lengthAt (0 ∷ 0 ∷ 128 ∷ 0 ∷ 87 ∷ 71 ∷ 199 ∷ 26 ∷ []) 0 ≡ answer 8388608
-  pub p3-more : lengthAt (1 ∷ 0 ∷ 128 ∷ 0 ∷ 50 ∷ 32 ∷ 123 ∷ 162 ∷ []) 0 ≡ refused wrongLength
+  pub p3-more : lengthAt (1 ∷ 0 ∷ 128 ∷ 0 ∷ 50 ∷ 32 ∷ 123 ∷ 162 ∷ []) 0 ≡ refused WrongLength
   pub p4 : recover 1 exampleSnapshot (1 ∷ 2 ∷ 3 ∷ 4 ∷ 5 ∷ 6 ∷ 7 ∷ []) ≡ recovered (record { config = settings 1 16 200 42 SquaredL2; crc = 354460059; state = record { records = []; sequence = 0; replayed = 0; skipped = 0 }; keep = 0 })
   pub p4-tail : tailLength (1 ∷ 2 ∷ 3 ∷ 4 ∷ 5 ∷ 6 ∷ 7 ∷ []) (record { config = settings 1 16 200 42 SquaredL2; crc = 354460059; state = record { records = []; sequence = 0; replayed = 0; skipped = 0 }; keep = 0 }) ≡ 7
-  pub p5 : recover 1 snapshot4 log45 ≡ recovered (record { config = settings 1 16 200 42 SquaredL2; crc = 3239177500; state = record { records = record { id = 7; deleted = false; fromLog = true; caption = 2; at = 64 } ∷ []; sequence = 5; replayed = 1; skipped = 1 }; keep = 78 })
-  pub p6 : recover 1 snapshot4 log6 ≡ refusedLog gapAfterSnapshot 0
-  pub p7 : recover 1 snapshot4 log35 ≡ refusedLog wrongSequence 39
-  pub p8 : readSnapshot 1 oneRecord1 ≡ refused wrongCount
-  pub p8-version-2 : readSnapshot 1 oneRecord2 ≡ answer (record { config = settings 1 16 200 42 SquaredL2; crc = 3860728703; sequence = 0; rows = record { id = 7; deleted = false; fromLog = false; caption = 0; at = 61 } ∷ [] })
+  pub p5 : recover 1 snapshot4 log45 ≡ recovered (record { config = settings 1 16 200 42 SquaredL2; crc = 3239177500; state = record { records = record { id = record { 0 = 7 }; deleted = false; «from_log» = true; «caption_length» = 2; at = 64 } ∷ []; sequence = 5; replayed = 1; skipped = 1 }; keep = 78 })
+  pub p6 : recover 1 snapshot4 log6 ≡ refusedLog GapAfterSnapshot 0
+  pub p7 : recover 1 snapshot4 log35 ≡ refusedLog WrongSequence 39
+  pub p8 : readSnapshot 1 oneRecord1 ≡ refused WrongCount
+  pub p8-version-2 : readSnapshot 1 oneRecord2 ≡ answer (record { config = settings 1 16 200 42 SquaredL2; crc = 3860728703; sequence = 0; rows = record { id = record { 0 = 7 }; deleted = false; «from_log» = false; «caption_length» = 0; at = 61 } ∷ [] })
   pub p9 : isUtf8 (0xF4 ∷ 0x8F ∷ 0xBF ∷ 0xBF ∷ []) ≡ true
   pub p9-overlong : isUtf8 (0xC0 ∷ 0x80 ∷ []) ≡ false
   pub p9-surrogate : isUtf8 (0xED ∷ 0xA0 ∷ 0x80 ∷ []) ≡ false
   pub p9-past : isUtf8 (0xF4 ∷ 0x90 ∷ 0x80 ∷ 0x80 ∷ []) ≡ false
   pub p9-empty : isUtf8 [] ≡ true
-  pub p11 : readSnapshot 1 cosineZero ≡ refused vectorAllZero
-  pub p12 : rowWord (packedRow (record { id = 7; deleted = false; fromLog = true; caption = 2; at = 64 })) ≡ 4611967493404098624
+  pub p11 : readSnapshot 1 cosineZero ≡ refused VectorAllZero
+  pub p12 : rowWord (record { id = record { 0 = 7 }; deleted = false; «from_log» = true; «caption_length» = 2; at = 64 }) ≡ 4611967493404098624
   -- the worked example: keep 78, tail 3, offsets 25 and 64, and the tables after
   pub example : recover 4096 exampleSnapshot exampleLog ≡ recovered exampleRecovered
   pub example-tail : tailLength exampleLog exampleRecovered ≡ 3
@@ -95,36 +92,7 @@ pub record Sums : Type 0 where
   -- with a row and an entry more than needed: zeros after
   pub example-tables : recoverTables (9 ∷ 9 ∷ 9 ∷ 9 ∷ 9 ∷ 9 ∷ 9 ∷ []) (9 ∷ 9 ∷ 9 ∷ []) (recovered exampleRecovered) ≡ record { rows = 7 ∷ (9223372036854775808 + 4611686018427387904 + 25) ∷ 7 ∷ 4611967493404098624 ∷ 0 ∷ 0 ∷ 0 ∷ []; active = 1 ∷ 0 ∷ 0 ∷ [] }
   -- a still that is withdrawn stays withdrawn
-  pub withdrawn : recover 4096 withdrawnSnapshot withdrawnLog ≡ recovered (record { config = settings 1 16 200 42 SquaredL2; crc = 1858255164; state = record { records = record { id = 7; deleted = true; fromLog = false; caption = 0; at = 61 } ∷ record { id = 8; deleted = true; fromLog = false; caption = 0; at = 84 } ∷ record { id = 9; deleted = true; fromLog = false; caption = 0; at = 104 } ∷ record { id = 9; deleted = true; fromLog = true; caption = 0; at = 68 } ∷ []; sequence = 5; replayed = 2; skipped = 1 }; keep = 121 })
-
-pub sums : Sums
-unfolding recover readSnapshot readHeader headerFor itemAt coordinates recordAt recordsAt liveTwice framesOf framesFrom frameAt lengthAt payloadAt singleAt batchAt operationsAt operationAt replay run step replayFrame applyAll applyPut applyRemove active mark size crcOf bytesIn bitsIn bitIn le validityOf inRange readMetricOf vectorOf patterns everyFinite everyZero isUtf8 validFront frontIn charLength total packed rowWord rowValues rowWords entriesFrom insert nodesOf liveCount
-sums =
-    record {
-      p1 = refl;
-      p2 = refl;
-      p2-passes = refl;
-      p3 = refl;
-      p3-more = refl;
-      p4 = refl;
-      p4-tail = refl;
-      p5 = refl;
-      p6 = refl;
-      p7 = refl;
-      p8 = refl;
-      p8-version-2 = refl;
-      p9 = refl;
-      p9-overlong = refl;
-      p9-surrogate = refl;
-      p9-past = refl;
-      p9-empty = refl;
-      p11 = refl;
-      p12 = refl;
-      example = refl;
-      example-tail = refl;
-      example-rows = refl;
-      example-active = refl;
-      example-told = refl;
-      example-tables = refl;
-      withdrawn = refl;
-    }
+  pub withdrawn : recover 4096 withdrawnSnapshot withdrawnLog ≡ recovered (record { config = settings 1 16 200 42 SquaredL2; crc = 1858255164; state = record { records = record { id = record { 0 = 7 }; deleted = true; «from_log» = false; «caption_length» = 0; at = 61 } ∷ record { id = record { 0 = 8 }; deleted = true; «from_log» = false; «caption_length» = 0; at = 84 } ∷ record { id = record { 0 = 9 }; deleted = true; «from_log» = false; «caption_length» = 0; at = 104 } ∷ record { id = record { 0 = 9 }; deleted = true; «from_log» = true; «caption_length» = 0; at = 68 } ∷ []; sequence = 5; replayed = 2; skipped = 1 }; keep = 121 })
+  -- demand 3 has a cut of it, after its first frame: its premises are met by real bytes
+  pub example-cut : Cut 4096 exampleSnapshot exampleLog
+  pub example-cut-place : place example-cut ≡ 39

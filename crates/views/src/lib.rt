@@ -1,43 +1,47 @@
 // Lookup by ID, and the views: a node's caption or vector as a part of the snapshot or of the log, in place.
-// The definitions are those of `meaning` (Views); specs/Told.antt says how an answer tells them, specs/Steps.antt parts them where the code is parted.
+// The definitions are those of `meaning` (Views); specs/Told.antt says how an answer tells them.
 ghost use mathlib.Core.Path.{_≡_};
-ghost use Prim.Native.Nat.{_+_, _*_, _≤_, _<_};
-ghost use mathlib.Core.Bool.{cond};
-ghost use lib.ListN.{length};
-ghost use Rattle.fields.specs.Fields.{part};
+ghost use Prim.Native.Nat.{_≤_};
+ghost use Rattle.config.specs.Limits.{maxDimensions};
+ghost use Rattle.refusal.specs.Refusal.{numberTold};
 ghost use Rattle.rows.specs.Lent.{rowsLentPlain};
+ghost use Rattle.rows.specs.Rows.{RowFits};
+ghost use Rattle.sources.specs.Sources.{bytesOf, startOf};
+ghost use Rattle.sources.specs.declared.Shown.the-variants.{Caption, Vector};
 ghost use Rattle.meaning.specs.Replay.{liveAs};
-ghost use Rattle.meaning.specs.Rows.{rowKind};
-ghost use Rattle.meaning.specs.Tables.{unpackedRow, rowsIn};
-ghost use Rattle.meaning.specs.Views.{findFrom, lookup as lookupOf, view, captionOf, vectorOf, numberTold, bytesOf};
-ghost use Rattle.views.specs.Steps.{rowFor};
-ghost use Rattle.views.specs.Told.{found, foundTold, namedTold, shownTold, captionPart, vectorPart, startOf};
+ghost use Rattle.meaning.specs.Records.{rowKind};
+ghost use Rattle.meaning.specs.Tables.{rowsIn};
+ghost use Rattle.meaning.specs.Views.{findFrom, lookup as lookupOf, rowFor, partFor, view as viewOf, given};
+ghost use Rattle.views.specs.Told.{found, foundTold, named, viewed};
 use config::Config;
+use refusal::Refusal;
 use rows::Id;
 use rows::Node;
 use rows::Row;
+use sources::Part;
+use sources::Shown;
 
-// The lowest live node of an ID, none, or document 01's number.
+// The lowest live node of an ID, or none.
 pub enum Found {
     Node(Node),
     None,
-    Refused(u32),
+    Refused(Refusal),
 }
 
-// The row of a node, or document 01's number.
+// The row of a node.
 enum Named {
     Row(Row),
-    Refused(u32),
+    Refused(Refusal),
 }
 
-// A part: whether of the log, its first byte, its length; or document 01's number.
-enum Shown {
-    Part(bool, usize, usize),
-    Refused(u32),
+// The part that a view gives.
+enum Viewed {
+    Part(Part),
+    Refused(Refusal),
 }
 
 fn live_as(row: Row, id: Id) -> bool
-    ensures { λ r. ⌜ r ≡ liveAs (rowKind 0) (id .0) (unpackedRow row) ⌝ }
+    ensures { λ r. ⌜ r ≡ liveAs (rowKind 0) (id .0) row ⌝ }
 {
     if row.deleted {
         return false;
@@ -67,100 +71,114 @@ pub fn lookup(rows: &[u64], count: usize, id: Id) -> Found
     ensures { λ r. ⌜ r ≡ foundTold (lookupOf (now (rows .entry)) count (id .0)) ⌝ }
 {
     if rows::rows_lent_plain(rows) < count {
-        return Found::Refused(30);
+        return Found::Refused(Refusal::NoSuchNode);
     }
     find(rows, count, id)
 }
 
 // What both views test before they look at the sources: 6, then 30.
 fn row_for(rows: &[u64], count: usize, node: Node, d: usize) -> Named
-    ensures { λ r. ⌜ r ≡ namedTold (rowFor d (now (rows .entry)) count (node .0)) ⌝ }
+    ensures { λ r. ⌜ r ≡ named (rowFor d (now (rows .entry)) count (node .0)) ⌝ }
 {
     let n = node.0 as usize;
     if d < Config::MIN_DIMENSIONS {
-        return Named::Refused(6);
+        return Named::Refused(Refusal::WrongDimensions);
     }
     if Config::MAX_DIMENSIONS < d {
-        return Named::Refused(6);
+        return Named::Refused(Refusal::WrongDimensions);
     }
     if count <= n {
-        return Named::Refused(30);
+        return Named::Refused(Refusal::NoSuchNode);
     }
     if rows::rows_lent_plain(rows) < count {
-        return Named::Refused(30);
+        return Named::Refused(Refusal::NoSuchNode);
     }
     Named::Row(rows::row_at(rows, node))
 }
 
-// Internal: the length of the source that a row names.
-pub fn source_length(snapshot: &[u8], log: &[u8], logged: bool) -> usize
-    ensures { λ r. ⌜ r ≡ length (cond logged (now (log .entry)) (now (snapshot .entry))) ⌝ }
+// 31.
+fn part_for(shown: Shown, d: usize, row: Row, snapshot: &[u8], log: &[u8]) -> Viewed
+    requires { ⌜ d ≤ maxDimensions ⌝ }
+    requires { ⌜ RowFits row ⌝ }
+    ensures { λ r. ⌜ r ≡ viewed (partFor shown d (now (snapshot .entry)) (now (log .entry)) row) ⌝ }
 {
-    if logged { log.len() } else { snapshot.len() }
+    let part = sources::shown_part(shown, d, row);
+    if sources::outside(snapshot, log, part) {
+        return Viewed::Refused(Refusal::RowDoesNotFit);
+    }
+    Viewed::Part(part)
 }
 
-fn caption_part(
+fn view(
+    shown: Shown,
     snapshot: &[u8],
     log: &[u8],
     rows: &[u64],
     count: usize,
     node: Node,
     d: usize,
-) -> Shown
-    ensures { λ r. ⌜ r ≡ shownTold (view captionOf d (now (rows .entry)) count (node .0) (now (snapshot .entry)) (now (log .entry))) ⌝ }
+) -> Viewed
+    ensures { λ r. ⌜ r ≡ viewed (viewOf shown d (now (rows .entry)) count (node .0) (now (snapshot .entry)) (now (log .entry))) ⌝ }
 {
-    let row = match row_for(rows, count, node, d) {
-        Named::Row(r) => r,
-        Named::Refused(n) => {
-            return Shown::Refused(n);
-        }
-    };
-    let from_log = row.from_log;
-    let n = row.caption;
-    let at = row.at + 4 * d + 4;
-    if source_length(snapshot, log, from_log) < at + n {
-        return Shown::Refused(31);
+    match row_for(rows, count, node, d) {
+        Named::Row(row) => part_for(shown, d, row, snapshot, log),
+        Named::Refused(why) => Viewed::Refused(why),
     }
-    Shown::Part(from_log, at, n)
 }
 
-fn vector_part(
+// Where the view refuses, the empty part at the snapshot's start.
+fn part_given(
+    shown: Shown,
     snapshot: &[u8],
     log: &[u8],
     rows: &[u64],
     count: usize,
     node: Node,
     d: usize,
-) -> Shown
-    ensures { λ r. ⌜ r ≡ shownTold (view vectorOf d (now (rows .entry)) count (node .0) (now (snapshot .entry)) (now (log .entry))) ⌝ }
+) -> Part
+    ensures { λ r. ⌜ r ≡ given (viewOf shown d (now (rows .entry)) count (node .0) (now (snapshot .entry)) (now (log .entry))) ⌝ }
 {
-    let row = match row_for(rows, count, node, d) {
-        Named::Row(r) => r,
-        Named::Refused(n) => {
-            return Shown::Refused(n);
-        }
-    };
-    let from_log = row.from_log;
-    let n = 4 * d;
-    let at = row.at;
-    if source_length(snapshot, log, from_log) < at + n {
-        return Shown::Refused(31);
+    match view(shown, snapshot, log, rows, count, node, d) {
+        Viewed::Part(part) => part,
+        Viewed::Refused(_) => Part {
+            from_log: false,
+            at: 0,
+            count: 0,
+        },
     }
-    Shown::Part(from_log, at, n)
 }
 
-// Internal: the bytes lie in their source. The n bytes from `at` of the log or of the snapshot, in place.
-pub fn cut<'a>(snapshot: &'a [u8], log: &'a [u8], logged: bool, at: usize, n: usize) -> &'a [u8]
-    requires { ⌜ at + n ≤ length (cond logged (now log) (now snapshot)) ⌝ }
-    ensures { λ r. ⌜ now r ≡ bytesOf (now (snapshot .entry)) (now (log .entry)) (record { fromLog = logged; at = at; count = n }) ⌝ }
-    ensures { λ r. ⌜ r .ptr ≡ startOf (snapshot .entry .ptr) (log .entry .ptr) (record { fromLog = logged; at = at; count = n }) ⌝ }
+fn bytes_given<'a>(
+    shown: Shown,
+    snapshot: &'a [u8],
+    log: &'a [u8],
+    rows: &[u64],
+    count: usize,
+    node: Node,
+    d: usize,
+) -> &'a [u8]
+    ensures { λ r. ⌜ now r ≡ bytesOf (now (snapshot .entry)) (now (log .entry)) (given (viewOf shown d (now (rows .entry)) count (node .0) (now (snapshot .entry)) (now (log .entry)))) ⌝ }
+    ensures { λ r. ⌜ r .ptr ≡ startOf (snapshot .entry .ptr) (log .entry .ptr) (given (viewOf shown d (now (rows .entry)) count (node .0) (now (snapshot .entry)) (now (log .entry)))) ⌝ }
 {
-    if logged {
-        let end = at + n;
-        return &log[at..end];
+    let part = part_given(shown, snapshot, log, rows, count, node, d);
+    sources::cut(snapshot, log, part)
+}
+
+fn number_told(
+    shown: Shown,
+    snapshot: &[u8],
+    log: &[u8],
+    rows: &[u64],
+    count: usize,
+    node: Node,
+    d: usize,
+) -> u32
+    ensures { λ r. ⌜ r ≡ numberTold (viewOf shown d (now (rows .entry)) count (node .0) (now (snapshot .entry)) (now (log .entry))) ⌝ }
+{
+    match view(shown, snapshot, log, rows, count, node, d) {
+        Viewed::Part(_) => 0,
+        Viewed::Refused(why) => why.number(),
     }
-    let end = at + n;
-    &snapshot[at..end]
 }
 
 // The caption's bytes where they lie; where it refuses, the empty part at the snapshot's start. `caption_number` tells the number.
@@ -172,13 +190,10 @@ pub fn caption_view<'a>(
     node: Node,
     d: usize,
 ) -> &'a [u8]
-    ensures { λ r. ⌜ now r ≡ bytesOf (now (snapshot .entry)) (now (log .entry)) (captionPart d (now (rows .entry)) count (node .0) (now (snapshot .entry)) (now (log .entry))) ⌝ }
-    ensures { λ r. ⌜ r .ptr ≡ startOf (snapshot .entry .ptr) (log .entry .ptr) (captionPart d (now (rows .entry)) count (node .0) (now (snapshot .entry)) (now (log .entry))) ⌝ }
+    ensures { λ r. ⌜ now r ≡ bytesOf (now (snapshot .entry)) (now (log .entry)) (given (viewOf Caption d (now (rows .entry)) count (node .0) (now (snapshot .entry)) (now (log .entry)))) ⌝ }
+    ensures { λ r. ⌜ r .ptr ≡ startOf (snapshot .entry .ptr) (log .entry .ptr) (given (viewOf Caption d (now (rows .entry)) count (node .0) (now (snapshot .entry)) (now (log .entry)))) ⌝ }
 {
-    match caption_part(snapshot, log, rows, count, node, d) {
-        Shown::Part(logged, at, n) => cut(snapshot, log, logged, at, n),
-        Shown::Refused(_) => &snapshot[..0],
-    }
+    bytes_given(Shown::Caption, snapshot, log, rows, count, node, d)
 }
 
 // 0 where nothing is refused.
@@ -190,12 +205,9 @@ pub fn caption_number(
     node: Node,
     d: usize,
 ) -> u32
-    ensures { λ r. ⌜ r ≡ numberTold (view captionOf d (now (rows .entry)) count (node .0) (now (snapshot .entry)) (now (log .entry))) ⌝ }
+    ensures { λ r. ⌜ r ≡ numberTold (viewOf Caption d (now (rows .entry)) count (node .0) (now (snapshot .entry)) (now (log .entry))) ⌝ }
 {
-    match caption_part(snapshot, log, rows, count, node, d) {
-        Shown::Part(_, _, _) => 0,
-        Shown::Refused(n) => n,
-    }
+    number_told(Shown::Caption, snapshot, log, rows, count, node, d)
 }
 
 // The vector's coordinate bytes where they lie, as `caption_view`. `vector_number` tells the number.
@@ -207,13 +219,10 @@ pub fn vector_view<'a>(
     node: Node,
     d: usize,
 ) -> &'a [u8]
-    ensures { λ r. ⌜ now r ≡ bytesOf (now (snapshot .entry)) (now (log .entry)) (vectorPart d (now (rows .entry)) count (node .0) (now (snapshot .entry)) (now (log .entry))) ⌝ }
-    ensures { λ r. ⌜ r .ptr ≡ startOf (snapshot .entry .ptr) (log .entry .ptr) (vectorPart d (now (rows .entry)) count (node .0) (now (snapshot .entry)) (now (log .entry))) ⌝ }
+    ensures { λ r. ⌜ now r ≡ bytesOf (now (snapshot .entry)) (now (log .entry)) (given (viewOf Vector d (now (rows .entry)) count (node .0) (now (snapshot .entry)) (now (log .entry)))) ⌝ }
+    ensures { λ r. ⌜ r .ptr ≡ startOf (snapshot .entry .ptr) (log .entry .ptr) (given (viewOf Vector d (now (rows .entry)) count (node .0) (now (snapshot .entry)) (now (log .entry)))) ⌝ }
 {
-    match vector_part(snapshot, log, rows, count, node, d) {
-        Shown::Part(logged, at, size) => cut(snapshot, log, logged, at, size),
-        Shown::Refused(_) => &snapshot[..0],
-    }
+    bytes_given(Shown::Vector, snapshot, log, rows, count, node, d)
 }
 
 // 0 where nothing is refused.
@@ -225,10 +234,7 @@ pub fn vector_number(
     node: Node,
     d: usize,
 ) -> u32
-    ensures { λ r. ⌜ r ≡ numberTold (view vectorOf d (now (rows .entry)) count (node .0) (now (snapshot .entry)) (now (log .entry))) ⌝ }
+    ensures { λ r. ⌜ r ≡ numberTold (viewOf Vector d (now (rows .entry)) count (node .0) (now (snapshot .entry)) (now (log .entry))) ⌝ }
 {
-    match vector_part(snapshot, log, rows, count, node, d) {
-        Shown::Part(_, _, _) => 0,
-        Shown::Refused(number) => number,
-    }
+    number_told(Shown::Vector, snapshot, log, rows, count, node, d)
 }

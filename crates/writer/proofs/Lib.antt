@@ -1,3 +1,3 @@
-pub mod PlacedLaws
-pub mod WrittenLaws
 pub mod FileLaws
+pub mod Stands
+pub mod WrittenLaws

@@ -1,127 +1,136 @@
 -- Laws of what is written: row by row, its bytes, its number of records and its size; a row that fits has the length that its size says.
-use Prim.Native.Nat.{ℕ, zero, suc, _+_, _*_, _-_, _≤_, _<_}
-use native.Mathlib.Nat.{add-assoc, zero-add}
+use Prim.Native.Nat.{ℕ, _+_, _*_, _-_, _≤_, _<_}
+use native.Mathlib.Nat.{zero-add}
 use native.Mathlib.Omega.{arith}
-use mathlib.Core.Path.{_≡_, refl, sym, ap, ap₂, subst, _∙_}
-use mathlib.Core.Bool.{Bool, true, false, not, cond, true≢false, false≢true}
-use mathlib.Core.List.{List, [], _∷_, _++_, map, append-assoc}
+use mathlib.Core.Path.{_≡_, refl, sym, ap, ap₂, _∙_}
+use mathlib.Core.Bool.{Bool, true, false, not, cond, true≢false}
+use mathlib.Core.List.{List, [], _∷_, _++_, map}
 use lib.ListN.{length, length-append}
-use lib.Dec.{ltb, eqb}
-use borrow.Author.Tests.{ltb-false, lt-ltb}
-use Rattle.fields.specs.Fields.{part, bytes}
+use borrow.Author.Tests.{ltb-false}
 use Rattle.fields.proofs.Parts.{length-part}
 use Rattle.fields.proofs.Numbers.{length-bytes}
+use Rattle.config.specs.Limits.{maxDimensions}
 use Rattle.config.specs.declared.Config.{Config}
+use Rattle.layout.specs.Layout.{recordLength}
+use Rattle.layout.specs.declared.Extent.{Extent}
+use Rattle.layout.specs.declared.Extent.the-variants.{Full, Compacted}
 use Rattle.rows.specs.Rows.{rowAt}
+use Rattle.rows.specs.declared.Row.{Row}
+use Rattle.sources.specs.Sources.{bytesOf, outside, Inside, shownPart}
+use Rattle.sources.specs.declared.Shown.the-variants.{Caption, Vector}
 use Rattle.meaning.specs.Replay.{size}
-use Rattle.meaning.specs.Rows.{Row, rowKind, encoded, source, captionStart, seen}
-use Rattle.meaning.specs.Item.{captionLimit}
-use Rattle.meaning.specs.Tables.{unpackedRow, rowsFrom}
-use Rattle.meaning.specs.File.{flagOf, recordBytes, recordsBytes}
-use Rattle.meaning.specs.Writer.{Extent, full, compacted, misfit, anyMisfit, liveRows, written}
-use Rattle.writer.specs.Steps.{keeps, rowBytes, rowsBytes}
-use Rattle.meaning.proofs.TableSteps.{fits-at}
+use Rattle.meaning.specs.Records.{rowKind, source, captionStart, seen}
+use Rattle.meaning.specs.Tables.{rowsFrom}
+use Rattle.meaning.specs.File.{recordBytes, recordsBytes}
+use Rattle.meaning.specs.Writer.{misfit, anyMisfit, liveRows, written}
+use Rattle.meaning.proofs.TableSteps.{fits-at, rows-next, rows-over}
+use Rattle.writer.specs.RowsWritten.{Copyable, keeps, rowBytes, rowsBytes, mostOfARow}
 
 -- ---- a row more
 pub written-row : (extent : Extent) (r : Row) (rs : List Row) → written extent (r ∷ rs) ≡ cond (keeps extent (r .deleted)) (r ∷ written extent rs) (written extent rs)
 unfolding liveRows
-written-row full r rs = refl
-written-row compacted r rs = by (r .deleted)
+written-row Full r rs = refl
+written-row Compacted r rs = by (r .deleted)
   where
     by : (t : Bool) → cond t (liveRows rs) (r ∷ liveRows rs) ≡ cond (not t) (r ∷ liveRows rs) (liveRows rs)
     by true = refl
     by false = refl
 
-pub written-none : (extent : Extent) → written extent [] ≡ []
+written-none : (extent : Extent) → written extent [] ≡ []
 unfolding liveRows
-written-none full = refl
-written-none compacted = refl
+written-none Full = refl
+written-none Compacted = refl
 
-module _ (extent : Extent) (r : Row) (rs : List Row) where
+-- what a number of rows is, counted by f, with a row more of a
+added : (t : Bool) (r : Row) (rs : List Row) (f : List Row → ℕ) (a : ℕ) → f (r ∷ rs) ≡ a + f rs → f (cond t (r ∷ rs) rs) ≡ cond t a 0 + f rs
+added true r rs f a e = e
+added false r rs f a e = sym (zero-add (f rs))
+
+module _ (extent : Extent) (d : ℕ) (r : Row) (rs : List Row) where
   pub length-row : length (written extent (r ∷ rs)) ≡ cond (keeps extent (r .deleted)) 1 0 + length (written extent rs)
-  length-row = ap length (written-row extent r rs) ∙ by (keeps extent (r .deleted))
-    where
-      by : (t : Bool) → length (cond t (r ∷ written extent rs) (written extent rs)) ≡ cond t 1 0 + length (written extent rs)
-      by true = omega arith
-      by false = sym (zero-add (length (written extent rs)))
+  length-row = ap length (written-row extent r rs) ∙ added (keeps extent (r .deleted)) r (written extent rs) length 1 (omega arith)
 
-  pub size-row : (d : ℕ) → size (rowKind d) (written extent (r ∷ rs)) ≡ cond (keeps extent (r .deleted)) (encoded d (r .caption)) 0 + size (rowKind d) (written extent rs)
+  pub size-row : size (rowKind d) (written extent (r ∷ rs)) ≡ cond (keeps extent (r .deleted)) (recordLength d (r .«caption_length»)) 0 + size (rowKind d) (written extent rs)
   unfolding size
-  size-row d = ap (size (rowKind d)) (written-row extent r rs) ∙ by (keeps extent (r .deleted))
-    where
-      by : (t : Bool) → size (rowKind d) (cond t (r ∷ written extent rs) (written extent rs)) ≡ cond t (encoded d (r .caption)) 0 + size (rowKind d) (written extent rs)
-      by true = refl
-      by false = sym (zero-add (size (rowKind d) (written extent rs)))
+  size-row =
+      ap (size (rowKind d)) (written-row extent r rs)
+      ∙ added (keeps extent (r .deleted)) r (written extent rs) (size (rowKind d)) (recordLength d (r .«caption_length»)) refl
 
-  pub bytes-row : (d : ℕ) (snapshot log : List ℕ) → rowsBytes extent d snapshot log (r ∷ rs) ≡ rowBytes extent d snapshot log r ++ rowsBytes extent d snapshot log rs
+  pub bytes-row : (snapshot log : List ℕ) → rowsBytes extent d snapshot log (r ∷ rs) ≡ rowBytes extent d snapshot log r ++ rowsBytes extent d snapshot log rs
   unfolding recordsBytes
-  bytes-row d snapshot log = ap (λ (l : List Row). recordsBytes (map (seen d snapshot log) l)) (written-row extent r rs) ∙ by (keeps extent (r .deleted))
+  bytes-row snapshot log = ap (λ (l : List Row). recordsBytes (map (seen d snapshot log) l)) (written-row extent r rs) ∙ by (keeps extent (r .deleted))
     where
       by : (t : Bool) → recordsBytes (map (seen d snapshot log) (cond t (r ∷ written extent rs) (written extent rs)))
           ≡ cond t (recordBytes (seen d snapshot log r)) [] ++ rowsBytes extent d snapshot log rs
       by true = refl
       by false = refl
 
-pub bytes-none : (extent : Extent) (d : ℕ) (snapshot log : List ℕ) → rowsBytes extent d snapshot log [] ≡ []
-unfolding recordsBytes
-bytes-none extent d snapshot log = ap (λ (l : List Row). recordsBytes (map (seen d snapshot log) l)) (written-none extent)
+-- no row adds more than `mostOfARow`
+pub at-most-one : (t : Bool) → cond t 1 0 ≤ 1
+at-most-one true = omega arith
+at-most-one false = omega arith
+
+pub at-most : (t : Bool) (d n : ℕ) → d ≤ maxDimensions → n < 32768 → cond t (recordLength d n) 0 ≤ mostOfARow
+at-most true d n h k = omega arith
+at-most false d n h k = omega arith
+
+-- ---- behind the last row
+module _ (extent : Extent) (d : ℕ) (words : List ℕ) (count i : ℕ) (h : count ≤ i) where
+  kept-none : written extent (rowsFrom (count - i) i words) ≡ []
+  kept-none = ap (written extent) (rows-over words count i h) ∙ written-none extent
+
+  pub length-none : length (written extent (rowsFrom (count - i) i words)) ≡ 0
+  length-none = ap length kept-none
+
+  pub size-none : size (rowKind d) (written extent (rowsFrom (count - i) i words)) ≡ 0
+  unfolding size
+  size-none = ap (size (rowKind d)) kept-none
+
+  pub bytes-none : (snapshot log : List ℕ) → rowsBytes extent d snapshot log (rowsFrom (count - i) i words) ≡ []
+  unfolding recordsBytes
+  bytes-none snapshot log = ap (λ (l : List Row). recordsBytes (map (seen d snapshot log) l)) kept-none
 
 -- ---- rows that fit
+pub first-fits : (t rest : Bool) → cond t true rest ≡ false → t ≡ false
+first-fits true rest e = e
+first-fits false rest e = refl
+
+pub rest-fits : (t rest : Bool) → cond t true rest ≡ false → rest ≡ false
+rest-fits true rest e = absurd (true≢false e)
+rest-fits false rest e = e
+
 module _ (c : Config) (snapshot log : List ℕ) where
-  pub fit-inside : (r : Row) → misfit c snapshot log r ≡ false → captionStart (c .dimensions) r + r .caption ≤ length (source snapshot log r)
-  fit-inside r e =
-      by (ltb (length (source snapshot log r)) (captionStart (c .dimensions) r + r .caption)) refl
-      (cond (cond (r .deleted) (not (eqb (r .caption) 0)) false) true (ltb (captionLimit c) (r .caption))) e
-    where
-      by : (t : Bool) → ltb (length (source snapshot log r)) (captionStart (c .dimensions) r + r .caption) ≡ t → (u : Bool) → cond t true u ≡ false
-          → captionStart (c .dimensions) r + r .caption ≤ length (source snapshot log r)
-      by true q u e = absurd (true≢false e)
-      by false q u e = ltb-false _ _ q
-
-  pub misfit-outside : (r : Row) → length (source snapshot log r) < captionStart (c .dimensions) r + r .caption → misfit c snapshot log r ≡ true
-  misfit-outside r h =
-      ap (λ (t : Bool). cond t true (cond (cond (r .deleted) (not (eqb (r .caption) 0)) false) true (ltb (captionLimit c) (r .caption))))
-      (lt-ltb (length (source snapshot log r)) (captionStart (c .dimensions) r + r .caption) h)
-
-  pub first-fits : (r : Row) (rs : List Row) → anyMisfit c snapshot log (r ∷ rs) ≡ false → misfit c snapshot log r ≡ false
+  pub any-row : (r : Row) (rs : List Row) → anyMisfit c snapshot log (r ∷ rs) ≡ cond (misfit c snapshot log r) true (anyMisfit c snapshot log rs)
   unfolding anyMisfit
-  first-fits r rs e = by (misfit c snapshot log r) e
-    where
-      by : (t : Bool) → cond t true (anyMisfit c snapshot log rs) ≡ false → t ≡ false
-      by true e = e
-      by false e = refl
+  any-row r rs = refl
 
-  pub rest-fits : (r : Row) (rs : List Row) → anyMisfit c snapshot log (r ∷ rs) ≡ false → anyMisfit c snapshot log rs ≡ false
+  pub any-none : anyMisfit c snapshot log [] ≡ false
   unfolding anyMisfit
-  rest-fits r rs e = by (misfit c snapshot log r) e
+  any-none = refl
+
+  pub fit-inside : (r : Row) → misfit c snapshot log r ≡ false → Inside snapshot log (shownPart Caption (c .dimensions) r)
+  fit-inside r e = ltb-false _ _ (first-fits (outside snapshot log (shownPart Caption (c .dimensions) r)) _ e)
+
+module _ (d : ℕ) (snapshot log : List ℕ) (r : Row) (h : Inside snapshot log (shownPart Caption d r)) where
+  -- the vector lies before the caption
+  pub vector-inside : Inside snapshot log (shownPart Vector d r)
+  vector-inside = omega arith
+
+  pub length-vector : length (bytesOf snapshot log (shownPart Vector d r)) ≡ 4 * d
+  length-vector = length-part (source snapshot log r) (r .at) (4 * d) vector-inside
+
+  pub length-caption : length (bytesOf snapshot log (shownPart Caption d r)) ≡ r .«caption_length»
+  length-caption = length-part (source snapshot log r) (captionStart d r) (r .«caption_length») h
+
+  pub length-record : length (recordBytes (seen d snapshot log r)) ≡ recordLength d (r .«caption_length»)
+  length-record = simp (length-append, length-bytes, length-vector, length-caption) (omega arith)
+
+  pub length-row-bytes : (extent : Extent) → length (rowBytes extent d snapshot log r) ≡ cond (keeps extent (r .deleted)) (recordLength d (r .«caption_length»)) 0
+  length-row-bytes extent = by (keeps extent (r .deleted))
     where
-      by : (t : Bool) → cond t true (anyMisfit c snapshot log rs) ≡ false → anyMisfit c snapshot log rs ≡ false
-      by true e = absurd (true≢false e)
-      by false e = e
-
-pub length-record : (d : ℕ) (snapshot log : List ℕ) (r : Row) → captionStart d r + r .caption ≤ length (source snapshot log r)
-    → length (recordBytes (seen d snapshot log r)) ≡ encoded d (r .caption)
-length-record d snapshot log r h =
-    let s = source snapshot log r in
-    let v = part s (r .at) (4 * d) in
-    let k = part s (captionStart d r) (r .caption) in
-    let lv : length v ≡ 4 * d = length-part s (r .at) (4 * d) (omega arith) in
-    let lk : length k ≡ r .caption = length-part s (captionStart d r) (r .caption) h in
-    let f = bytes 1 (flagOf (r .deleted)) in
-    let n = bytes 4 (length k) in
-    let l1 = length-append (bytes 8 (r .id)) (f ++ (v ++ (n ++ k))) in
-    let l2 = length-append f (v ++ (n ++ k)) in
-    let l3 = length-append v (n ++ k) in
-    let l4 = length-append n k in
-    omega (arith, length-bytes 8 (r .id), length-bytes 1 (flagOf (r .deleted)), length-bytes 4 (length k))
-
-pub length-row-bytes : (extent : Extent) (d : ℕ) (snapshot log : List ℕ) (r : Row) → captionStart d r + r .caption ≤ length (source snapshot log r)
-    → length (rowBytes extent d snapshot log r) ≡ cond (keeps extent (r .deleted)) (encoded d (r .caption)) 0
-length-row-bytes extent d snapshot log r h = by (keeps extent (r .deleted))
-  where
-    by : (t : Bool) → length (cond t (recordBytes (seen d snapshot log r)) []) ≡ cond t (encoded d (r .caption)) 0
-    by true = length-record d snapshot log r h
-    by false = refl
+      by : (t : Bool) → length (cond t (recordBytes (seen d snapshot log r)) []) ≡ cond t (recordLength d (r .«caption_length»)) 0
+      by true = length-record
+      by false = refl
 
 pub length-rows-bytes : (extent : Extent) (c : Config) (snapshot log : List ℕ) (rs : List Row) → anyMisfit c snapshot log rs ≡ false
     → length (rowsBytes extent (c .dimensions) snapshot log rs) ≡ size (rowKind (c .dimensions)) (written extent rs)
@@ -131,55 +140,32 @@ length-rows-bytes extent c snapshot log [] e =
     ∙ sym (ap (size (rowKind (c .dimensions))) (written-none extent))
 length-rows-bytes extent c snapshot log (r ∷ rs) e =
     let d = c .dimensions in
-    let i = length-rows-bytes extent c snapshot log rs (rest-fits c snapshot log r rs e) in
-    let h = fit-inside c snapshot log r (first-fits c snapshot log r rs e) in
-    ap length (bytes-row extent r rs d snapshot log) ∙ length-append (rowBytes extent d snapshot log r) (rowsBytes extent d snapshot log rs)
-    ∙ ap₂ _+_ (length-row-bytes extent d snapshot log r h) i ∙ sym (size-row extent r rs d)
+    let f = sym (any-row c snapshot log r rs) ∙ e in
+    let i = length-rows-bytes extent c snapshot log rs (rest-fits (misfit c snapshot log r) _ f) in
+    let h = fit-inside c snapshot log r (first-fits (misfit c snapshot log r) _ f) in
+    ap length (bytes-row extent d r rs snapshot log) ∙ length-append (rowBytes extent d snapshot log r) (rowsBytes extent d snapshot log rs)
+    ∙ ap₂ _+_ (length-row-bytes d snapshot log r h extent) i ∙ sym (size-row extent d r rs)
 
--- a record's parts as the code puts them, one behind the other
-pub record-parts : (d : ℕ) (snapshot log : List ℕ) (r : Row) (f : ℕ) (v k : List ℕ) → captionStart d r + r .caption ≤ length (source snapshot log r)
-    → f ≡ flagOf (r .deleted) → v ≡ part (source snapshot log r) (r .at) (4 * d) → k ≡ part (source snapshot log r) (captionStart d r) (r .caption)
-    → (((bytes 8 (r .id) ++ bytes 1 f) ++ v) ++ bytes 4 (r .caption)) ++ k ≡ recordBytes (seen d snapshot log r)
-record-parts d snapshot log r f v k h ef ev ek =
-    let s = source snapshot log r in
-    let vector = part s (r .at) (4 * d) in
-    let caption = part s (captionStart d r) (r .caption) in
-    let flag = bytes 1 (flagOf (r .deleted)) in
-    let count = bytes 4 (length caption) in
-    let n : r .caption ≡ length caption = sym (length-part s (captionStart d r) (r .caption) h) in
-    let id = bytes 8 (r .id) in
-    ap₂ (λ (x : List ℕ) (y : List ℕ). x ++ y)
-    (ap₂ (λ (x : List ℕ) (y : List ℕ). x ++ y) (ap₂ (λ (x : List ℕ) (y : List ℕ). x ++ y) (ap (λ (x : ℕ). id ++ bytes 1 x) ef) ev) (ap (bytes 4) n)) ek
-    ∙ append-assoc ((id ++ flag) ++ vector) count caption ∙ append-assoc (id ++ flag) vector (count ++ caption) ∙ append-assoc id flag (vector ++ (count ++ caption))
+-- ---- the rows of a table from node i on: the bytes of that of node i come first
+pub record FirstRow (extent : Extent) (c : Config) (words : List ℕ) (count : ℕ) (snapshot log : List ℕ) (i : ℕ) : Type 0 where
+  pub copied : Copyable (c .dimensions) snapshot log (rowAt words i)
+  pub rest-fit : anyMisfit c snapshot log (rowsFrom (count - (i + 1)) (i + 1) words) ≡ false
+  pub bytes-are : rowsBytes extent (c .dimensions) snapshot log (rowsFrom (count - i) i words)
+      ≡ rowBytes extent (c .dimensions) snapshot log (rowAt words i) ++ rowsBytes extent (c .dimensions) snapshot log (rowsFrom (count - (i + 1)) (i + 1) words)
+  pub long : length (rowsBytes extent (c .dimensions) snapshot log (rowsFrom (count - i) i words))
+      ≡ length (rowBytes extent (c .dimensions) snapshot log (rowAt words i)) + length (rowsBytes extent (c .dimensions) snapshot log (rowsFrom (count - (i + 1)) (i + 1) words))
 
--- ---- sums and scans, one row further
-pub at-most-one : (t : Bool) → cond t 1 0 ≤ 1
-at-most-one true = omega arith
-at-most-one false = omega arith
-
-pub added-size : (t : Bool) (d n : ℕ) → d ≤ 4096 → n < 32768 → cond t (encoded d n) 0 ≤ 65536
-added-size true d n h k = omega arith
-added-size false d n h k = omega arith
-
-module _ (c : Config) (snapshot log : List ℕ) where
-  module _ (r : Row) (rs : List Row) where
-    pub any-here : misfit c snapshot log r ≡ true → anyMisfit c snapshot log (r ∷ rs) ≡ true
-    unfolding anyMisfit
-    any-here e = ap (λ (t : Bool). cond t true (anyMisfit c snapshot log rs)) e
-
-    pub any-on : misfit c snapshot log r ≡ false → anyMisfit c snapshot log (r ∷ rs) ≡ anyMisfit c snapshot log rs
-    unfolding anyMisfit
-    any-on e = ap (λ (t : Bool). cond t true (anyMisfit c snapshot log rs)) e
-
-  pub any-none : anyMisfit c snapshot log [] ≡ false
-  unfolding anyMisfit
-  any-none = refl
-
--- no table of lent rows takes more bytes than a word counts
-pub size-bounded : (extent : Extent) (d : ℕ) (words : List ℕ) (n k : ℕ) → d ≤ 4096 → size (rowKind d) (written extent (rowsFrom n k words)) ≤ 65536 * n
-unfolding rowsFrom size
-size-bounded extent d words zero k h = let e = ap (size (rowKind d)) (written-none extent) in omega arith
-size-bounded extent d words (suc n) k h =
-    let R = unpackedRow (rowAt words k) in
-    let f = fits-at words k in
-    omega (arith, size-bounded extent d words n (suc k) h, size-row extent R (rowsFrom n (suc k) words) d, added-size (keeps extent (R .deleted)) d (R .caption) h (f .caption-fits))
+pub first-row : (extent : Extent) (c : Config) (words : List ℕ) (count : ℕ) (snapshot log : List ℕ) (i : ℕ) → c .dimensions ≤ maxDimensions → i < count
+    → anyMisfit c snapshot log (rowsFrom (count - i) i words) ≡ false → FirstRow extent c words count snapshot log i
+first-row extent c words count snapshot log i small h e =
+    let r = rowAt words i in
+    let rs = rowsFrom (count - (i + 1)) (i + 1) words in
+    let n = rows-next words count i h in
+    let f = sym (any-row c snapshot log r rs) ∙ sym (ap (anyMisfit c snapshot log) n) ∙ e in
+    let b = ap (rowsBytes extent (c .dimensions) snapshot log) n ∙ bytes-row extent (c .dimensions) r rs snapshot log in
+    record {
+      copied = record { d-small = small; row-fits = fits-at words i; inside = fit-inside c snapshot log r (first-fits (misfit c snapshot log r) _ f) };
+      rest-fit = rest-fits (misfit c snapshot log r) _ f;
+      bytes-are = b;
+      long = ap length b ∙ length-append (rowBytes extent (c .dimensions) snapshot log r) (rowsBytes extent (c .dimensions) snapshot log rs);
+    }

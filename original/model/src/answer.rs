@@ -2,7 +2,7 @@
 use crate::{
     cache::{Expected, read_cache},
     config::{Config, rng_state},
-    coordinates::coordinates_number,
+    coordinates::check_coordinates,
     crc::crc32,
     encode::{self, delete_frame, encode_batch, encode_frame},
     limits::LISTED_ROWS,
@@ -73,9 +73,10 @@ pub fn sources_of<'a>(request: &Request<'a>) -> Option<Sources<'a>> {
 fn answer_coordinates(metric: u64, coordinates: &[u8]) -> Option<Reply> {
     let length = coordinates.len();
     let good = metric <= 2 && (4..=16_384).contains(&length) && length % 4 == 0;
-    good.then(|| Reply::Coordinates(coordinates_number(metric, coordinates)))
+    good.then(|| Reply::Validated(check_coordinates(metric, coordinates)))
 }
 
+/// The tables' fill is looked at nowhere: a call leaves its rows and zeros, refused or not, whatever was there.
 fn answer_read(request: &Request, row_words: u64, active_entries: u64) -> Reply {
     if row_words > MAX_LENT || active_entries > MAX_LENT {
         return Reply::TooLarge;
@@ -185,7 +186,7 @@ pub fn write_state<'a>(request: &Request<'a>, row_words: &'a [u64]) -> Option<St
 }
 
 fn answer_recover_write(request: &Request) -> Option<Reply> {
-    let &[row_words, active_entries, length, fill] = &request.numbers[..] else { return None };
+    let &[row_words, active_entries, length, fill, _] = &request.numbers[..] else { return None };
     let Some(mut output) = lent_output(length, fill) else { return Some(Reply::TooLarge) };
     if row_words > MAX_LENT || active_entries > MAX_LENT {
         return Some(Reply::TooLarge);
@@ -236,7 +237,7 @@ fn view(outcome: Result<&[u8], u32>) -> Reply {
     }
 }
 
-/// Call 19's numbers besides the starts lent.
+/// Call 19's numbers besides the starts lent and their fill.
 pub fn expected_cache(numbers: &[u64]) -> Option<Expected> {
     Some(Expected {
         config: Config::from_numbers(&numbers[..5])?,

@@ -2,17 +2,17 @@
 
 pub const COSINE: u64 = 1;
 
-/// 12, 13, or 0 for good coordinates.
-pub fn coordinates_number(metric: u64, coordinates: &[u8]) -> u32 {
+/// 12 or 13.
+pub fn check_coordinates(metric: u64, coordinates: &[u8]) -> Result<(), u32> {
     let bits: Vec<u32> =
         coordinates.chunks_exact(4).map(|chunk| u32::from_le_bytes(chunk.try_into().unwrap())).collect();
     if bits.iter().any(|&bits| is_not_finite(bits)) {
-        return 12;
+        return Err(12);
     }
     if metric == COSINE && bits.iter().all(|&bits| is_zero(bits)) {
-        return 13;
+        return Err(13);
     }
-    0
+    Ok(())
 }
 
 fn is_not_finite(bits: u32) -> bool {

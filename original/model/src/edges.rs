@@ -3,7 +3,7 @@ use crate::{
     answer::answer_listing,
     cache::{Expected, read_cache},
     config::{Config, rng_state},
-    coordinates::coordinates_number,
+    coordinates::check_coordinates,
     crc::crc32,
     encode::framed,
     log::{Next, next_frame},
@@ -104,8 +104,8 @@ fn p10_levels() {
 
 #[test]
 fn p11_minus_zero() {
-    assert_eq!(coordinates_number(1, &(-0f32).to_le_bytes()), 13);
-    assert_eq!(coordinates_number(1, &0x8000_0001u32.to_le_bytes()), 0);
+    assert_eq!(check_coordinates(1, &(-0f32).to_le_bytes()), Err(13));
+    assert_eq!(check_coordinates(1, &0x8000_0001u32.to_le_bytes()), Ok(()));
 }
 
 #[test]

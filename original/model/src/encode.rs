@@ -1,7 +1,7 @@
 //! Frame and batch encoding, with document 01's checks; a refusal changes no byte.
 use crate::{
     config::Config,
-    coordinates::coordinates_number,
+    coordinates::check_coordinates,
     crc::crc32,
     limits::{BATCH_OPERATIONS, MAX_CAPTION, PAYLOAD_BYTES},
     log::{AROUND, BATCH, DELETE, PUT},
@@ -110,10 +110,7 @@ fn checked_put<'a>(request: &Request<'a>, id: u64, word: &Word, vector: &[u32]) 
     }
     let caption = part(request.captions, word.caption_offset, word.caption_length).ok_or(33u32)?;
     let coordinates: Vec<u8> = vector.iter().flat_map(|bits| bits.to_le_bytes()).collect();
-    let number = coordinates_number(request.config.metric, &coordinates);
-    if number != 0 {
-        return Err(number);
-    }
+    check_coordinates(request.config.metric, &coordinates)?;
     if !is_utf8(caption) {
         return Err(15);
     }

@@ -1,7 +1,7 @@
 //! Snapshot reading, versions 1 and 2.
 use crate::{
     config::Config,
-    coordinates::coordinates_number,
+    coordinates::check_coordinates,
     crc::crc32,
     fields::Fields,
     limits::{MAX_CAPTION, MAX_RECORDS, RECORD_FRAME, SNAPSHOT_BYTES},
@@ -95,10 +95,7 @@ pub fn read_checked_vector_and_caption(
     config: &Config,
     coordinates: &[u8],
 ) -> Result<u64, u32> {
-    let number = coordinates_number(config.metric, coordinates);
-    if number != 0 {
-        return Err(number);
-    }
+    check_coordinates(config.metric, coordinates)?;
     let length = u64::from(fields.u32()?);
     if length > MAX_CAPTION {
         return Err(14);

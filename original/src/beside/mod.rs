@@ -59,6 +59,10 @@ impl Beside {
                 let original = crate::Config::new(numbers[0] as usize);
                 Reply::Settings(check.same("defaults", config, vecnook::settings(&original)))
             }
+            Reply::Validated(outcome) if request.call == COORDINATES => {
+                let original = vecnook::validate_vector(numbers[0], &vecnook::vector(request.parts[0]));
+                Reply::Validated(check.outcome("coordinates", outcome, original))
+            }
             Reply::Validated(outcome) => {
                 let config = Config::from_numbers(numbers).unwrap();
                 Reply::Validated(check.outcome(
@@ -66,12 +70,6 @@ impl Beside {
                     outcome,
                     vecnook::validate(&vecnook::config(&config)),
                 ))
-            }
-            Reply::Coordinates(number) => {
-                let vector = vecnook::vector(request.parts[0]);
-                let original = vecnook::validate_vector(numbers[0], &vector);
-                let outcome = if number == 0 { Ok(()) } else { Err(number) };
-                Reply::Coordinates(check.outcome("coordinates", outcome, original).err().unwrap_or(0))
             }
             Reply::Read { outcome, rows, active } => {
                 let sources = sources_of(request).unwrap();

@@ -1,5 +1,8 @@
 //! Lengths and counts around each bound, and document 01's sums at the edges, as requests.
-use super::plan::{FramePlan, OperationPlan, RecordPlan, SnapshotPlan, with_crc};
+use super::{
+    plan::{FramePlan, OperationPlan, RecordPlan, SnapshotPlan, with_crc},
+    values::table_fill_of,
+};
 use model::{
     config::{Config, rng_state},
     crc::crc32,
@@ -36,7 +39,7 @@ fn frame(sequence: u64, is_batch: bool, operations: Vec<OperationPlan>) -> Vec<u
 }
 
 fn recover(snapshot: &[u8], log: &[u8]) -> Vec<u8> {
-    request::body(RECOVER, &[20, 10], &[snapshot, log])
+    request::body(RECOVER, &[20, 10, table_fill_of(snapshot.len() + log.len())], &[snapshot, log])
 }
 
 /// 16, 17, 8,388,608 and 8,388,609: whole where that is short, else the head alone.
@@ -113,7 +116,7 @@ fn read_cache(count: u64, entry: u64, length: usize) -> Vec<u8> {
     cache.extend([3, count, entry, rng_state(42, count)].map(u64::to_le_bytes).concat());
     cache.resize(length - 4, 0);
     let mut numbers = config(1).numbers().to_vec();
-    numbers.extend([9, 3, count, 2]);
+    numbers.extend([9, 3, count, 2, table_fill_of(length)]);
     request::body(READ_CACHE, &numbers, &[&with_crc(&cache)])
 }
 

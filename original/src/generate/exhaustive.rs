@@ -5,6 +5,7 @@ use super::{
     good,
     plan::repair_crc,
     prng::Prng,
+    values::table_fill_of,
 };
 use model::request::{self, *};
 
@@ -73,7 +74,7 @@ fn small_pair(index: u64) -> PairBytes {
 }
 
 fn recover_request(snapshot: &[u8], log: &[u8]) -> Vec<u8> {
-    request::body(RECOVER, &[40, 20], &[snapshot, log])
+    request::body(RECOVER, &[40, 20, table_fill_of(snapshot.len() + log.len())], &[snapshot, log])
 }
 
 fn delete_frames() -> impl Iterator<Item = Vec<u8>> {

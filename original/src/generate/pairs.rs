@@ -3,6 +3,7 @@ use super::{
     damage::{PairBytes, damaged, undamaged},
     good,
     prng::Prng,
+    values::table_fill,
 };
 use model::{
     answer::write_recovered,
@@ -64,14 +65,14 @@ fn lent(prng: &mut Prng, wanted: u64) -> (u64, u64) {
 pub fn recover_request(prng: &mut Prng) -> Vec<u8> {
     let pair = pair(prng);
     let (row_words, entries) = lent(prng, pair.rows_wanted());
-    request::body(RECOVER, &[row_words, entries], &[&pair.snapshot, &pair.log])
+    request::body(RECOVER, &[row_words, entries, table_fill(prng)], &[&pair.snapshot, &pair.log])
 }
 
 pub fn read_snapshot_request(prng: &mut Prng) -> Vec<u8> {
     let mut pair = pair(prng);
     pair.log.clear();
     let (row_words, entries) = lent(prng, pair.rows_wanted());
-    request::body(READ_SNAPSHOT, &[row_words, entries], &[&pair.snapshot])
+    request::body(READ_SNAPSHOT, &[row_words, entries, table_fill(prng)], &[&pair.snapshot])
 }
 
 pub fn listing_request(prng: &mut Prng) -> Vec<u8> {
@@ -90,7 +91,8 @@ pub fn recover_write_request(prng: &mut Prng) -> Vec<u8> {
         SNAPSHOT_FRAME + state.size - not_written
     });
     let length = output_length(prng, needed).min(65_536);
-    request::body(call, &[row_words, entries, length, prng.below(256)], &[&pair.snapshot, &pair.log])
+    let numbers = [row_words, entries, length, prng.below(256), table_fill(prng)];
+    request::body(call, &numbers, &[&pair.snapshot, &pair.log])
 }
 
 /// Exactly enough, one too few, more, none.

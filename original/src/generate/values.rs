@@ -167,6 +167,31 @@ pub fn bad_text(prng: &mut Prng) -> Vec<u8> {
     bytes
 }
 
+/// What every word of the lent tables holds before a call; an active entry holds its low half.
+const FILLS: [u64; 6] = [
+    0,
+    u64::MAX,
+    // Twice the word, a live row: few IDs, which files have too, without a caption; a place where a
+    // cache's first node stands; a caption of two bytes.
+    3,
+    7,
+    48,
+    2 << 47 | 61,
+];
+
+pub fn table_fill(prng: &mut Prng) -> u64 {
+    match prng.below(8) {
+        0 => prng.below(6),
+        1 => prng.next(),
+        _ => prng.pick(&FILLS),
+    }
+}
+
+/// The fills in turn, for a request that no number is drawn for.
+pub fn table_fill_of(place: usize) -> u64 {
+    FILLS[place % FILLS.len()]
+}
+
 /// A value for an edited field: the bounds of document 01, the value's neighbours, anything.
 pub fn edited(prng: &mut Prng, value: u64) -> u64 {
     const BOUNDS: [u64; 26] = [

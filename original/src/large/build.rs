@@ -8,6 +8,9 @@ use model::{
 
 /// Row words and entries for every row there can be, and a few more.
 pub const ALL_ROWS: [u64; 2] = [200_010, 100_005];
+
+/// The lent tables' fill: twice the word is a live row of an ID that the files have.
+pub const LIVE: u64 = 5;
 /// Coordinates and caption of the largest record.
 pub const LARGEST: Config = Config { d: 4096, m: 16, ef: 200, seed: 42, metric: 0 };
 pub const LARGEST_RECORD: u64 = 13 + 4 * 4096 + 16_384;
@@ -106,10 +109,10 @@ pub fn batch_captions(payload: u64) -> Vec<u64> {
     captions
 }
 
-pub fn recover(lent: [u64; 2], snapshot: &[u8], log: &[u8]) -> Vec<u8> {
-    request::body(RECOVER, &lent, &[snapshot, log])
+pub fn recover([row_words, entries]: [u64; 2], snapshot: &[u8], log: &[u8]) -> Vec<u8> {
+    request::body(RECOVER, &[row_words, entries, LIVE], &[snapshot, log])
 }
 
-pub fn read_snapshot(lent: [u64; 2], snapshot: &[u8]) -> Vec<u8> {
-    request::body(READ_SNAPSHOT, &lent, &[snapshot])
+pub fn read_snapshot([row_words, entries]: [u64; 2], snapshot: &[u8]) -> Vec<u8> {
+    request::body(READ_SNAPSHOT, &[row_words, entries, LIVE], &[snapshot])
 }

@@ -1,5 +1,5 @@
 //! Caches of 100,000 nodes and at their largest.
-use super::Case;
+use super::{Case, build::LIVE};
 use crate::generate::plan::with_crc;
 use model::{
     config::{Config, rng_state},
@@ -49,7 +49,7 @@ const CONFIG: Config = Config { d: 1, m: 64, ef: 64, seed: 7, metric: 0 };
 
 fn read(count: u64, starts: u64, cache: &[u8]) -> Vec<u8> {
     let mut numbers = CONFIG.numbers().to_vec();
-    numbers.extend([5, 6, count, starts]);
+    numbers.extend([5, 6, count, starts, LIVE]);
     request::body(READ_CACHE, &numbers, &[cache])
 }
 

@@ -102,5 +102,5 @@ pub fn longest(version: u32, length: u64) -> Vec<u8> {
 
 fn write(call: u8, length: u64) -> Vec<u8> {
     let [row_words, entries] = ALL_ROWS;
-    request::body(call, &[row_words, entries, MAX_SNAPSHOT + 10, 0xA5], &[&longest(1, length), &[]])
+    request::body(call, &[row_words, entries, MAX_SNAPSHOT + 10, 0xA5, LIVE], &[&longest(1, length), &[]])
 }

@@ -2,8 +2,9 @@
 mod layout;
 
 use crate::{
-    answerer::{Answerer, NOT_YET},
+    answerer::Answerer,
     beside::Beside,
+    compare::differs,
     generate::plan::{repair_crc, repair_log},
 };
 use model::request::*;
@@ -19,21 +20,11 @@ pub fn shrink(body: Vec<u8>, beside: &mut Beside, other: &mut dyn Answerer) -> V
     smallest
 }
 
-/// From the original, or the original from the model; a call without code is no difference.
-pub fn differs(body: &[u8], beside: &mut Beside, answer: Option<&Vec<u8>>) -> bool {
-    let answer = answer.map(Vec::as_slice);
-    if answer == Some(NOT_YET) {
-        return false;
-    }
-    let wanted = beside.answer(body);
-    !wanted.findings.is_empty() || answer != Some(wanted.reply.text().as_bytes())
-}
-
 fn first_different(candidates: &[Vec<u8>], beside: &mut Beside, other: &mut dyn Answerer) -> Option<Vec<u8>> {
     for some in candidates.chunks(TOGETHER) {
         let answers = other.answers(some);
         for (place, candidate) in some.iter().enumerate() {
-            if differs(candidate, beside, answers.get(place)) {
+            if differs(candidate, answers.get(place), beside) {
                 return Some(candidate.clone());
             }
         }

@@ -1,44 +1,50 @@
--- The run from operation k on, behind the bytes so far, is the whole run.
-use mathlib.Core.Path.{_≡_, refl, sym, ap, _∙_}
-use Prim.Native.Nat.{ℕ, suc, _+_, _*_, _-_, _/_, _≤_, _<_}
-use mathlib.Core.Bool.{true, false}
-use denote.Ref.{now}
-use lib.ListN.{length, take, drop}
-use Rattle.fields.proofs.Parts.{length-part}
-use Rattle.meaning.specs.Encoder.{askedFrom, isPut, putCount, encodePut, encodeAll}
-use Rattle.encoder.specs.Told.{operationTold, operationsTold, lengthOf}
-use Rattle.encoder.specs.Steps.{askedAt}
-use Rattle.encoder.proofs.CheckLaws.{coordinates-start, coordinates-on, coordinates-off, From, from-start, from-put, from-put-off, from-delete, from-delete-off, from-end}
+-- The run from operation k on, behind the bytes so far, is the whole run: `Measuring`.
+use mathlib.Core.Path.{_≡_, sym, ap₂, subst, _∙_}
+use Prim.Native.Nat.{ℕ, _+_, _-_, _≤_}
 use native.Mathlib.Omega.{arith}
+use denote.Ref.{now}
+use mathlib.Core.List.{List}
+use lib.ListN.{length, drop}
+use Rattle.refusal.specs.Refusal.{sizeTold}
+use Rattle.refusal.proofs.Results.{measured-not}
+use Rattle.meaning.specs.Encoder.{Asked, encodeOperation}
+use Rattle.encoder.specs.Requests.{askedAt, taken, taggedLength}
+use Rattle.encoder.proofs.RunLaws.{put-at, read-at, asked-at, vector-there, rest-is, measured-end, measured-refused, Measuring, measuring-start, measuring-next}
 use borrow.Author.Needs.{needs}
 use Rattle.encoder.proofs.check_operations.Statement.{statement}
 use Rattle.encoder.proofs.check_operations.Tie as tie
 
 abbrev Inv-loop : tie.InvT-loop
-Inv-loop config operations coordinates captions d n sum₀ at₀ k₀ sum at k =
-    (k ≤ n)
-    × (sum ≤ 32781 * k)
-    × (length coordinates ≡ at + config .dimensions * putCount (askedFrom (n - k) k operations))
-    × (From config operations coordinates captions n sum at k ≡ operationsTold 0 (encodeAll config coordinates captions (askedFrom n 0 operations)))
+Inv-loop config operations coordinates captions d n sum₀ at₀ k₀ sum at k = Measuring config operations coordinates captions sum at k
 
 abbrev μ-loop : tie.MeasureT-loop
 μ-loop config operations coordinates captions d n sum₀ at₀ k₀ sum at k = n - k
 
+-- Inv-loop at a turn: what is answered of operation k, and what then is left
+here : (c : tie.After-check-operation Inv-loop μ-loop)
+    → c .check-operation .result ≡ sizeTold taggedLength (encodeOperation (c .before .before .before .before .before .before .before .before .before .args .config) (drop (c .before .before .before .before .before .loop .at) (now (c .before .before .before .before .before .before .before .before .before .args .coordinates))) (now (c .before .before .before .before .before .before .before .before .before .args .captions)) (askedAt (now (c .before .before .before .before .before .before .before .before .before .args .operations)) (c .before .before .before .before .before .loop .k)))
+here c =
+    let a = c .before .before .before .before .before .before .before .before .before .args in
+    let l = c .before .before .before .before .before .loop in
+    let p = c .before .before .before .operation-at in
+    c .check-operation .ensures
+    ∙ ap₂ (λ (cs : List ℕ) (o : Asked). sizeTold taggedLength (encodeOperation (a .config) cs (now (a .captions)) o)) (rest-is (l .at) (now (a .coordinates))) (asked-at (now (a .operations)) (l .k) (p .result) (p .ensures))
+
+turn : (c : tie.After-m Inv-loop μ-loop)
+    → (c .m .given .0 .0 ≤ 32781) × Measuring (c .before .before .before .before .before .before .before .before .before .before .before .args .config) (now (c .before .before .before .before .before .before .before .before .before .before .before .args .operations)) (now (c .before .before .before .before .before .before .before .before .before .before .before .args .coordinates)) (now (c .before .before .before .before .before .before .before .before .before .before .before .args .captions))
+    (c .before .before .before .before .before .before .before .loop .sum + c .m .given .0 .0) (c .before .before .before .before .before .before .before .loop .at + taken (c .before .before .before .before .before .operation-at .result .put) (c .before .before .before .before .before .before .before .before .before .before .before .args .config .dimensions)) (c .before .before .before .before .before .before .before .loop .k + 1)
+turn c =
+    let s = c .before .before .before .before .before .before .before .before .before .before .before in
+    let l = c .before .before .before .before .before .before .before .loop in
+    let p = c .before .before .before .before .before .operation-at in
+    measuring-next (s .args .config) (now (s .args .operations)) (now (s .args .coordinates)) (now (s .args .captions)) (l .sum) (l .at) (l .k) (c .m .given .0 .0) (p .result)
+    (s .pre .0) (l .inv) (c .before .before .before .before .before .before .loop-test .taken) (p .ensures) (sym (here (c .before .before)) ∙ c .m .given .1)
+
 loop-holds : tie.Need-loop-holds Inv-loop μ-loop
-loop-holds c =
-    let a = c .before .before .before .args in
-    let words = now (a .operations) in
-    let coords = now (a .coordinates) in
-    (search needs, search needs, coordinates-start (a .config .dimensions) (length words / 2) (length coords) words (c .before .before .before .pre .1 .1), from-start (a .config) words coords (now (a .captions)) (length words / 2))
+loop-holds c = measuring-start _ _ _ _ (c .before .before .before .pre .1 .1)
 
-mul-id : tie.Need-mul-id Inv-loop μ-loop
-mul-id c = search needs
-
-mul-id-2 : tie.Need-mul-id-2 Inv-loop μ-loop
-mul-id-2 c = search needs
-
-shared-slice-read-id : tie.Need-shared-slice-read-id Inv-loop μ-loop
-shared-slice-read-id c = search needs
+operation-at-requires : tie.Need-operation-at-requires Inv-loop μ-loop
+operation-at-requires c κs = search needs
 
 mul-word : tie.Need-mul-word Inv-loop μ-loop
 mul-word c = search needs
@@ -52,210 +58,73 @@ mul-word-2 c = search needs
 shared-slice-read-word : tie.Need-shared-slice-read-word Inv-loop μ-loop
 shared-slice-read-word c = search needs
 
-unpack-requires : tie.Need-unpack-requires Inv-loop μ-loop
-unpack-requires c κs = search needs
+mul-check-operation : tie.Need-mul-check-operation Inv-loop μ-loop
+mul-check-operation c = search needs
 
-add-k : tie.Need-add-k Inv-loop μ-loop
-add-k c = search needs
+sub-check-operation : tie.Need-sub-check-operation Inv-loop μ-loop
+sub-check-operation c = omega (arith, c .before .before .before .loop .inv .enough)
 
-add-end : tie.Need-add-end Inv-loop μ-loop
-add-end c =
-    let a = c .before .before .before .before .before .before .before .before .before .args in
-    let words = now (a .operations) in
-    let coords = now (a .coordinates) in
-    let captions = now (a .captions) in
-    let n = length words / 2 in
-    let d = a .config .dimensions in
-    let l = c .before .before .before .before .before .loop in
-    let h : l .k < n = c .before .before .before .before .loop-test .taken in
-    let put : isPut (askedAt words (l .k)) ≡ true = sym (ap (λ x. x .put) (c .before .unpack .ensures)) ∙ c .if1 .taken in
-    let room = coordinates-on d (l .at) n (l .k) (length coords) words (l .inv .2) h put in
-    omega arith
+part-check-operation-start : tie.Need-part-check-operation-start Inv-loop μ-loop
+part-check-operation-start c = omega (arith, c .before .before .before .loop .inv .enough)
 
-mul-check-put : tie.Need-mul-check-put Inv-loop μ-loop
-mul-check-put c =
-    let a = c .before .before .before .before .before .before .before .before .before .args in
-    let words = now (a .operations) in
-    let coords = now (a .coordinates) in
-    let captions = now (a .captions) in
-    let n = length words / 2 in
-    let d = a .config .dimensions in
-    let l = c .before .before .before .before .before .loop in
-    let h : l .k < n = c .before .before .before .before .loop-test .taken in
-    let put : isPut (askedAt words (l .k)) ≡ true = sym (ap (λ x. x .put) (c .before .unpack .ensures)) ∙ c .if1 .taken in
-    let room = coordinates-on d (l .at) n (l .k) (length coords) words (l .inv .2) h put in
-    omega (arith, c .before .before .before .before .before .before .before .before .before .good .1 .1 .0 .1)
+part-check-operation-end : tie.Need-part-check-operation-end Inv-loop μ-loop
+part-check-operation-end c = search needs
 
-sub-check-put : tie.Need-sub-check-put Inv-loop μ-loop
-sub-check-put c =
-    let a = c .before .before .before .before .before .before .before .before .before .args in
-    let words = now (a .operations) in
-    let coords = now (a .coordinates) in
-    let captions = now (a .captions) in
-    let n = length words / 2 in
-    let d = a .config .dimensions in
-    let l = c .before .before .before .before .before .loop in
-    let h : l .k < n = c .before .before .before .before .loop-test .taken in
-    let put : isPut (askedAt words (l .k)) ≡ true = sym (ap (λ x. x .put) (c .before .unpack .ensures)) ∙ c .if1 .taken in
-    let room = coordinates-on d (l .at) n (l .k) (length coords) words (l .inv .2) h put in
-    search needs
-
-part-check-put-start : tie.Need-part-check-put-start Inv-loop μ-loop
-part-check-put-start c = search needs
-
-part-check-put-end : tie.Need-part-check-put-end Inv-loop μ-loop
-part-check-put-end c =
-    let a = c .before .before .before .before .before .before .before .before .before .args in
-    let words = now (a .operations) in
-    let coords = now (a .coordinates) in
-    let captions = now (a .captions) in
-    let n = length words / 2 in
-    let d = a .config .dimensions in
-    let l = c .before .before .before .before .before .loop in
-    let h : l .k < n = c .before .before .before .before .loop-test .taken in
-    let put : isPut (askedAt words (l .k)) ≡ true = sym (ap (λ x. x .put) (c .before .unpack .ensures)) ∙ c .if1 .taken in
-    let room = coordinates-on d (l .at) n (l .k) (length coords) words (l .inv .2) h put in
-    let inside : l .at + d ≤ length coords = omega arith in
-    inside
-
-check-put-requires : tie.Need-check-put-requires Inv-loop μ-loop
-check-put-requires c κs =
-    let a = c .before .before .before .before .before .before .before .before .before .before .args in
-    let words = now (a .operations) in
-    let coords = now (a .coordinates) in
-    let captions = now (a .captions) in
-    let n = length words / 2 in
-    let d = a .config .dimensions in
-    let l = c .before .before .before .before .before .before .loop in
-    let h : l .k < n = c .before .before .before .before .before .loop-test .taken in
-    let put : isPut (askedAt words (l .k)) ≡ true = sym (ap (λ x. x .put) (c .before .before .unpack .ensures)) ∙ c .before .if1 .taken in
-    let room = coordinates-on d (l .at) n (l .k) (length coords) words (l .inv .2) h put in
-    let q : l .at + d - l .at ≡ d = omega arith in
-    (ap (λ (j : ℕ). length (take j (drop (l .at) coords))) q ∙ length-part coords (l .at) d (omega arith), c .before .before .before .before .before .before .before .before .before .before .pre .0)
+check-operation-requires : tie.Need-check-operation-requires Inv-loop μ-loop
+check-operation-requires c κs =
+    let s = c .before .before .before .before .before .before .before .before in
+    let l = c .before .before .before .before .loop in
+    let words = now (s .args .operations) in
+    let coords = now (s .args .coordinates) in
+    let p = c .before .before .operation-at in (
+      s .pre .0,
+      (
+        read-at words (l .k) (p .result) (p .ensures),
+        λ t.
+            subst (λ (cs : List ℕ). s .args .config .dimensions ≤ length cs) (sym (rest-is (l .at) coords))
+            (vector-there words (l .k) (c .before .before .before .loop-test .taken) (s .args .config .dimensions) (l .at) coords (l .inv .enough) (sym (put-at words (l .k) (p .result) (p .ensures)) ∙ t)),
+      ),
+    )
 
 enum-known-m : tie.Need-enum-known-m Inv-loop μ-loop
 enum-known-m c = search needs
-
-add-sum : tie.Need-add-sum Inv-loop μ-loop
-add-sum c =
-    let a = c .before .before .before .before .before .before .before .before .before .before .before .before .before .before .args in
-    let words = now (a .operations) in
-    let coords = now (a .coordinates) in
-    let captions = now (a .captions) in
-    let n = length words / 2 in
-    let d = a .config .dimensions in
-    let l = c .before .before .before .before .before .before .before .before .before .before .loop in
-    let h : l .k < n = c .before .before .before .before .before .before .before .before .before .loop-test .taken in
-    let put : isPut (askedAt words (l .k)) ≡ true = sym (ap (λ x. x .put) (c .before .before .before .before .before .before .unpack .ensures)) ∙ c .before .before .before .before .before .if1 .taken in
-    omega (arith, c .before .before .before .check-put .ensures .1, ap lengthOf (c .before .m .given .1), l .inv .1, c .before .before .before .before .before .before .before .before .before .before .before .before .before .before .pre .1 .0)
-
-loop-less : tie.Need-loop-less Inv-loop μ-loop
-loop-less c = search needs
-
-loop-again : tie.Need-loop-again Inv-loop μ-loop
-loop-again c =
-    let a = c .before .before .before .before .before .before .before .before .before .before .before .before .before .before .args in
-    let words = now (a .operations) in
-    let coords = now (a .coordinates) in
-    let captions = now (a .captions) in
-    let n = length words / 2 in
-    let d = a .config .dimensions in
-    let l = c .before .before .before .before .before .before .before .before .before .before .loop in
-    let h : l .k < n = c .before .before .before .before .before .before .before .before .before .loop-test .taken in
-    let put : isPut (askedAt words (l .k)) ≡ true = sym (ap (λ x. x .put) (c .before .before .before .before .before .before .unpack .ensures)) ∙ c .before .before .before .before .before .if1 .taken in
-    let room = coordinates-on d (l .at) n (l .k) (length coords) words (l .inv .2) h put in
-    let q : l .at + d - l .at ≡ d = omega arith in
-    let told = sym (c .before .before .before .check-put .ensures .0 ∙ ap (λ (j : ℕ). operationTold (encodePut (a .config) (take j (drop (l .at) coords)) captions (askedAt words (l .k)))) q) ∙ c .before .m .given .1 in (
-      search needs,
-      omega (arith, c .before .before .before .check-put .ensures .1, ap lengthOf (c .before .m .given .1), l .inv .1),
-      room,
-      sym (from-put (a .config) words coords captions n (l .sum) (l .at) (l .k) h (c .before .m .given .0 .0) put told) ∙ l .inv .3,
-    )
 
 enum-known-r : tie.Need-enum-known-r Inv-loop μ-loop
 enum-known-r c = search needs
 
 returns : tie.Need-returns Inv-loop μ-loop
 returns c =
-    let a = c .before .before .before .before .before .before .before .before .before .before .before .before .before .before .args in
-    let words = now (a .operations) in
-    let coords = now (a .coordinates) in
-    let captions = now (a .captions) in
-    let n = length words / 2 in
-    let d = a .config .dimensions in
-    let l = c .before .before .before .before .before .before .before .before .before .before .loop in
-    let h : l .k < n = c .before .before .before .before .before .before .before .before .before .loop-test .taken in
-    let put : isPut (askedAt words (l .k)) ≡ true = sym (ap (λ x. x .put) (c .before .before .before .before .before .before .unpack .ensures)) ∙ c .before .before .before .before .before .if1 .taken in
-    let q : l .at + d - l .at ≡ d = omega arith in
-    let told = sym (c .before .before .before .check-put .ensures .0 ∙ ap (λ (j : ℕ). operationTold (encodePut (a .config) (take j (drop (l .at) coords)) captions (askedAt words (l .k)))) q) ∙ c .before .r .given .1 in
-    (sym (from-put-off (a .config) words coords captions n (l .sum) (l .at) (l .k) h (c .before .r .given .0 .0) put told) ∙ l .inv .3, search needs)
+    let s = c .before .before .before .before .before .before .before .before .before .before .before .before in
+    let l = c .before .before .before .before .before .before .before .before .loop in
+    let no = measured-not taggedLength _ (c .before .r .given .0 .0) (sym (here (c .before .before .before)) ∙ c .before .r .given .1) in
+    sym (measured-refused (s .args .config) (now (s .args .operations)) (now (s .args .coordinates)) (now (s .args .captions)) (l .sum) (l .at) (l .k) (c .before .before .before .before .before .before .before .loop-test .taken) _ no) ∙ l .inv .run
 
-check-delete-requires : tie.Need-check-delete-requires Inv-loop μ-loop
-check-delete-requires c κs = search needs
+add-sum : tie.Need-add-sum Inv-loop μ-loop
+add-sum c = let l = c .before .before .before .before .before .before .before .before .loop in omega (arith, turn (c .before) .0, l .inv .few, l .inv .within, c .before .before .before .before .before .before .before .before .before .before .before .before .pre .1 .0)
 
-enum-known-m-2 : tie.Need-enum-known-m-2 Inv-loop μ-loop
-enum-known-m-2 c = search needs
+taken-requires : tie.Need-taken-requires Inv-loop μ-loop
+taken-requires c κs = search needs
 
-add-sum-2 : tie.Need-add-sum-2 Inv-loop μ-loop
-add-sum-2 c =
-    let a = c .before .before .before .before .before .before .before .before .before .before .before .before .before .args in
-    let words = now (a .operations) in
-    let coords = now (a .coordinates) in
-    let captions = now (a .captions) in
-    let n = length words / 2 in
-    let d = a .config .dimensions in
+add-at : tie.Need-add-at Inv-loop μ-loop
+add-at c = omega (arith, turn (c .before .before) .1 .enough, c .taken .ensures .0)
+
+add-k : tie.Need-add-k Inv-loop μ-loop
+add-k c = search needs
+
+loop-less : tie.Need-loop-less Inv-loop μ-loop
+loop-less c = search needs
+
+loop-again : tie.Need-loop-again Inv-loop μ-loop
+loop-again c =
+    let s = c .before .before .before .before .before .before .before .before .before .before .before .before .before in
     let l = c .before .before .before .before .before .before .before .before .before .loop in
-    let h : l .k < n = c .before .before .before .before .before .before .before .before .loop-test .taken in
-    let put : isPut (askedAt words (l .k)) ≡ false = sym (ap (λ x. x .put) (c .before .before .before .before .before .unpack .ensures)) ∙ c .before .before .before .before .if1 .left in
-    omega (arith, c .before .before .before .check-delete .ensures .1, ap lengthOf (c .before .m2 .given .1), l .inv .1, c .before .before .before .before .before .before .before .before .before .before .before .before .before .pre .1 .0)
-
-loop-less-2 : tie.Need-loop-less-2 Inv-loop μ-loop
-loop-less-2 c = search needs
-
-loop-again-2 : tie.Need-loop-again-2 Inv-loop μ-loop
-loop-again-2 c =
-    let a = c .before .before .before .before .before .before .before .before .before .before .before .before .before .args in
-    let words = now (a .operations) in
-    let coords = now (a .coordinates) in
-    let captions = now (a .captions) in
-    let n = length words / 2 in
-    let d = a .config .dimensions in
-    let l = c .before .before .before .before .before .before .before .before .before .loop in
-    let h : l .k < n = c .before .before .before .before .before .before .before .before .loop-test .taken in
-    let put : isPut (askedAt words (l .k)) ≡ false = sym (ap (λ x. x .put) (c .before .before .before .before .before .unpack .ensures)) ∙ c .before .before .before .before .if1 .left in
-    let room = coordinates-off d (l .at) n (l .k) (length coords) words (l .inv .2) h put in
-    let told = sym (c .before .before .before .check-delete .ensures .0) ∙ c .before .m2 .given .1 in (
-      search needs,
-      omega (arith, c .before .before .before .check-delete .ensures .1, ap lengthOf (c .before .m2 .given .1), l .inv .1),
-      room,
-      sym (from-delete (a .config) words coords captions n (l .sum) (l .at) (l .k) h (c .before .m2 .given .0 .0) put told) ∙ l .inv .3,
-    )
-
-enum-known-r-2 : tie.Need-enum-known-r-2 Inv-loop μ-loop
-enum-known-r-2 c = search needs
+    subst (λ (n : ℕ). Measuring (s .args .config) (now (s .args .operations)) (now (s .args .coordinates)) (now (s .args .captions)) (l .sum + c .before .before .m .given .0 .0) (l .at + n) (l .k + 1)) (sym (c .taken .ensures .0)) (turn (c .before .before) .1)
 
 returns-2 : tie.Need-returns-2 Inv-loop μ-loop
 returns-2 c =
-    let a = c .before .before .before .before .before .before .before .before .before .before .before .before .before .args in
-    let words = now (a .operations) in
-    let coords = now (a .coordinates) in
-    let captions = now (a .captions) in
-    let n = length words / 2 in
-    let d = a .config .dimensions in
-    let l = c .before .before .before .before .before .before .before .before .before .loop in
-    let h : l .k < n = c .before .before .before .before .before .before .before .before .loop-test .taken in
-    let put : isPut (askedAt words (l .k)) ≡ false = sym (ap (λ x. x .put) (c .before .before .before .before .before .unpack .ensures)) ∙ c .before .before .before .before .if1 .left in
-    let told = sym (c .before .before .before .check-delete .ensures .0) ∙ c .before .r2 .given .1 in
-    (sym (from-delete-off (a .config) words coords captions n (l .sum) (l .at) (l .k) h (c .before .r2 .given .0 .0) put told) ∙ l .inv .3, search needs)
-
-returns-3 : tie.Need-returns-3 Inv-loop μ-loop
-returns-3 c =
     let a = c .before .before .before .before .before .args in
-    let words = now (a .operations) in
-    let l = c .before .loop in (
-      sym (from-end (a .config) words (now (a .coordinates)) (now (a .captions)) (length words / 2) (l .sum) (l .at) (l .k) (c .loop-test .left)) ∙ l .inv .3,
-      omega (arith, l .inv .0, l .inv .1, c .before .before .before .before .before .pre .1 .0),
-    )
+    let l = c .before .loop in
+    sym (measured-end (a .config) (now (a .operations)) (now (a .coordinates)) (now (a .captions)) (l .sum) (l .at) (l .k) (c .loop-test .left)) ∙ l .inv .run
 
 pub check-operations-spec : {M : Type 1} → statement M
 check-operations-spec =
@@ -264,32 +133,23 @@ check-operations-spec =
     Inv-loop
     μ-loop
     loop-holds
-    mul-id
-    mul-id-2
-    shared-slice-read-id
+    operation-at-requires
     mul-word
     add-word
     mul-word-2
     shared-slice-read-word
-    unpack-requires
-    add-k
-    add-end
-    mul-check-put
-    sub-check-put
-    part-check-put-start
-    part-check-put-end
-    check-put-requires
+    mul-check-operation
+    sub-check-operation
+    part-check-operation-start
+    part-check-operation-end
+    check-operation-requires
     enum-known-m
-    add-sum
-    loop-less
-    loop-again
     enum-known-r
     returns
-    check-delete-requires
-    enum-known-m-2
-    add-sum-2
-    loop-less-2
-    loop-again-2
-    enum-known-r-2
-    returns-2
-    returns-3)
+    add-sum
+    taken-requires
+    add-at
+    add-k
+    loop-less
+    loop-again
+    returns-2)

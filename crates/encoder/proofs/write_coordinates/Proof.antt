@@ -1,28 +1,27 @@
 -- The coordinates so far stand at the front.
 use mathlib.Core.Path.{_≡_, refl, sym, ap, _∙_}
-use Prim.Native.Nat.{ℕ, suc, _+_, _*_, _-_, _/_, _≤_, _<_}
-use mathlib.Core.List.{_++_}
+use Prim.Native.Nat.{ℕ, _+_, _*_, _-_, _≤_}
+use native.Mathlib.Omega.{arith}
 use denote.Ref.{now}
+use mathlib.Core.List.{List}
 use lib.ListN.{length, take, getD}
 use Rattle.fields.specs.Fields.{bytes}
+use Rattle.fields.specs.Placed.{placed}
+use Rattle.fields.proofs.PlacedLaws.{placed-none, then-placed}
 use Rattle.coordinates.specs.Coordinates.{coordinateBytes}
-use Rattle.frames.specs.Front.{Front}
-use Rattle.frames.proofs.Fronts.{front-number, front-same}
-use Rattle.encoder.proofs.CoordinateLaws.{coordinates-more, coordinates-size, coordinates-all}
-use native.Mathlib.Omega.{arith}
+use Rattle.encoder.proofs.CoordinateLaws.{coordinates-none, coordinates-more, coordinates-size, coordinates-all}
 use borrow.Author.Needs.{needs}
 use Rattle.encoder.proofs.write_coordinates.Statement.{statement}
 use Rattle.encoder.proofs.write_coordinates.Tie as tie
 
 abbrev Inv-loop : tie.InvT-loop
-Inv-loop out₀ coordinates i₀ out i = (i ≤ length coordinates) × (length out ≡ length out₀) × Front out₀ (coordinateBytes (take i coordinates)) out
+Inv-loop out₀ coordinates i₀ out i = (i ≤ length coordinates) × (length out ≡ length out₀) × (out ≡ placed 0 (coordinateBytes (take i coordinates)) out₀)
 
 abbrev μ-loop : tie.MeasureT-loop
 μ-loop out₀ coordinates i₀ out i = length coordinates - i
 
 loop-holds : tie.Need-loop-holds Inv-loop μ-loop
-unfolding coordinateBytes
-loop-holds c = (search needs, refl, refl)
+loop-holds c = let o = now (c .before .before .args .out) in (search needs, refl, sym (ap (λ (l : List ℕ). placed 0 l o) coordinates-none ∙ placed-none 0 o))
 
 mul-put-u32 : tie.Need-mul-put-u32 Inv-loop μ-loop
 mul-put-u32 c = search needs
@@ -34,9 +33,7 @@ shared-slice-read-put-u32 : tie.Need-shared-slice-read-put-u32 Inv-loop μ-loop
 shared-slice-read-put-u32 c = search needs
 
 put-u32-requires : tie.Need-put-u32-requires Inv-loop μ-loop
-put-u32-requires c κs =
-    let l = c .before .before .before .loop in
-    omega (arith, l .inv .1, c .before .before .loop-test .taken, c .before .before .before .before .before .before .pre)
+put-u32-requires c κs = omega (arith, c .before .before .before .loop .inv .1, c .before .before .loop-test .taken, c .before .before .before .before .before .before .pre)
 
 add-i : tie.Need-add-i Inv-loop μ-loop
 add-i c = search needs
@@ -46,12 +43,17 @@ loop-less c = search needs
 
 loop-again : tie.Need-loop-again Inv-loop μ-loop
 loop-again c =
-    let a = c .before .before .before .before .before .before .before .before .before .args in
-    let cs = now (a .coordinates) in
+    let o = now (c .before .before .before .before .before .before .before .before .before .args .out) in
+    let cs = now (c .before .before .before .before .before .before .before .before .before .args .coordinates) in
     let l = c .before .before .before .before .before .before .loop in
-    let P = coordinateBytes (take (l .i) cs) in
-    let f = front-number (now (a .out)) P (l .out) (4 * l .i) 4 (getD cs (l .i) 0) (l .inv .2) (coordinates-size cs (l .i) (l .inv .0)) in
-    (search needs, c .before .before .put-u32 .kept .0 ∙ l .inv .1, front-same (now (a .out)) (P ++ bytes 4 (getD cs (l .i) 0)) _ (c .before .before .put-u32 .last .0) (coordinates-more cs (l .i) (c .before .before .before .before .before .loop-test .taken)) (c .before .before .put-u32 .ensures ∙ f))
+    let p = c .before .before .put-u32 in
+    let h = c .before .before .before .before .before .loop-test .taken in
+    let size : 4 * l .i ≡ 0 + length (coordinateBytes (take (l .i) cs)) = omega (arith, coordinates-size cs (l .i) (l .inv .0)) in (
+      search needs,
+      p .kept .0 ∙ l .inv .1,
+      then-placed 0 (coordinateBytes (take (l .i) cs)) (bytes 4 (getD cs (l .i) 0)) o (l .out) (p .last .0) (4 * l .i) (omega arith) (l .inv .2) size (p .ensures)
+          ∙ ap (λ (b : List ℕ). placed 0 b o) (coordinates-more cs (l .i) h),
+    )
 
 same-length : tie.Need-same-length Inv-loop μ-loop
 same-length c = c .before .loop .inv .1
@@ -59,10 +61,9 @@ same-length c = c .before .loop .inv .1
 returns : tie.Need-returns Inv-loop μ-loop
 returns c =
     let a = c .before .before .before .before .args in
-    let cs = now (a .coordinates) in
     let l = c .before .loop in
-    let whole : l .i ≡ length cs = omega (arith, l .inv .0, c .loop-test .left) in
-    front-same (now (a .out)) (coordinateBytes (take (l .i) cs)) (coordinateBytes cs) (l .out) (coordinates-all cs (l .i) whole) (l .inv .2)
+    let whole : l .i ≡ length (now (a .coordinates)) = omega (arith, l .inv .0, c .loop-test .left) in
+    l .inv .2 ∙ ap (λ (b : List ℕ). placed 0 b (now (a .out))) (coordinates-all (now (a .coordinates)) (l .i) whole)
 
 pub write-coordinates-spec : {M : Type 1} → statement M
 write-coordinates-spec =

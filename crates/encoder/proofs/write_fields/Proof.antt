@@ -1,104 +1,118 @@
--- Four fields, one behind the other, the second and the last written into the rest.
-use mathlib.Core.Path.{_≡_, refl, sym, ap, _∙_}
-use Prim.Native.Nat.{ℕ, suc, _+_, _*_, _-_, _/_, _≤_, _<_}
-use mathlib.Core.List.{List, [], _∷_, _++_, append-assoc}
-use denote.Ref.{now}
-use lib.ListN.{length, length-append}
-use Rattle.fields.specs.Fields.{bytes}
-use Rattle.fields.proofs.Numbers.{length-bytes}
-use Rattle.coordinates.specs.Coordinates.{coordinateBytes}
-use Rattle.coordinates.proofs.Patterns.{length-coordinateBytes}
-use Rattle.frames.specs.Front.{Front}
-use Rattle.frames.proofs.Fronts.{front-number, front-lend, front-same}
-use Rattle.encoder.specs.Steps.{putFields}
+-- By the tag's bit.
+use mathlib.Core.Path.{_≡_, sym, ap, ap₂, _∙_}
+use Prim.Native.Nat.{ℕ, _+_, _-_}
 use native.Mathlib.Omega.{arith}
+use denote.Ref.{now}
+use mathlib.Core.List.{List}
+use lib.ListN.{length, take, drop}
+use lib.Seq.{length-take-le}
+use Rattle.fields.specs.Fields.{part}
+use Rattle.layout.specs.Layout.{itemLength}
+use Rattle.fields.specs.Placed.{placed}
+use Rattle.fields.proofs.Parts.{length-part}
+use Rattle.meaning.specs.Encoder.{putFields}
+use Rattle.encoder.specs.Requests.{fieldsOf, PutFits}
+use Rattle.encoder.proofs.OperationLaws.{put-fields, delete-fields, put-size, delete-size}
 use borrow.Author.Needs.{needs}
 use Rattle.encoder.proofs.write_fields.Statement.{statement}
 use Rattle.encoder.proofs.write_fields.Tie as tie
 
-put-u64-requires : tie.Need-put-u64-requires
-put-u64-requires c κs = search needs
+-- a put: what it is handed, its caption, and how long its fields are
+fits : (c : tie.Then1) → PutFits (c .before .before .before .before .before .args .config .dimensions) (now (c .before .before .before .before .before .args .coordinates)) (now (c .before .before .before .before .before .args .captions)) (c .before .before .before .before .before .args .o)
+fits c = c .before .before .before .before .before .pre .1 .0 (c .if1 .taken)
 
-sub-write-coordinates : tie.Need-sub-write-coordinates
-sub-write-coordinates c = search needs
+abbrev cut : tie.Then1 → List ℕ
+cut c = let a = c .before .before .before .before .before .args in take (a .o .at + a .o .«caption_length» - a .o .at) (drop (a .o .at) (now (a .captions)))
 
-part-write-coordinates-start : tie.Need-part-write-coordinates-start
-part-write-coordinates-start c = search needs
+text-is : (c : tie.Then1) → cut c ≡ part (now (c .before .before .before .before .before .args .captions)) (c .before .before .before .before .before .args .o .at) (c .before .before .before .before .before .args .o .«caption_length»)
+text-is c =
+    let a = c .before .before .before .before .before .args in
+    let q : a .o .at + a .o .«caption_length» - a .o .at ≡ a .o .«caption_length» = omega arith in
+    ap (λ (k : ℕ). take k (drop (a .o .at) (now (a .captions)))) q
 
-part-write-coordinates-end : tie.Need-part-write-coordinates-end
-part-write-coordinates-end c = search needs
+text-size : (c : tie.Then1) → length (cut c) ≡ c .before .before .before .before .before .args .o .«caption_length»
+text-size c = let a = c .before .before .before .before .before .args in ap length (text-is c) ∙ length-part (now (a .captions)) (a .o .at) (a .o .«caption_length») (fits c .inside)
 
-write-coordinates-requires : tie.Need-write-coordinates-requires
-write-coordinates-requires c κs = search needs
+vector-size : (c : tie.Then1) → length (take (c .before .before .before .before .before .args .config .dimensions) (now (c .before .before .before .before .before .args .coordinates))) ≡ c .before .before .before .before .before .args .config .dimensions
+vector-size c = length-take-le _ _ (fits c .vector)
 
-mul-at : tie.Need-mul-at
-mul-at c = search needs
+size : (c : tie.Then1)
+    → length (fieldsOf (c .before .before .before .before .before .args .config .dimensions) (now (c .before .before .before .before .before .args .coordinates)) (now (c .before .before .before .before .before .args .captions)) (c .before .before .before .before .before .args .o))
+    ≡ 8 + itemLength (c .before .before .before .before .before .args .config .dimensions) (c .before .before .before .before .before .args .o .«caption_length»)
+size c = let a = c .before .before .before .before .before .args in put-size (a .config .dimensions) (now (a .coordinates)) (now (a .captions)) (a .o) (c .if1 .taken) (fits c)
 
-add-at : tie.Need-add-at
-add-at c = search needs
+add-stop : tie.Need-add-stop
+add-stop c = omega (arith, fits c .inside)
 
-cast-put-u32 : tie.Need-cast-put-u32
-cast-put-u32 c = search needs
+slice-aggregate-write-put : tie.Need-slice-aggregate-write-put
+slice-aggregate-write-put c = sym (length-take-le _ _ (fits (c .before .before) .vector))
 
-put-u32-requires : tie.Need-put-u32-requires
-put-u32-requires c κs = search needs
+sub-write-put : tie.Need-sub-write-put
+sub-write-put c = search needs
 
-add-rest : tie.Need-add-rest
-add-rest c = search needs
+part-write-put-start : tie.Need-part-write-put-start
+part-write-put-start c = search needs
 
-sub-copy : tie.Need-sub-copy
-sub-copy c = search needs
+part-write-put-end : tie.Need-part-write-put-end
+part-write-put-end c = fits (c .before .before) .inside
 
-part-copy-start : tie.Need-part-copy-start
-part-copy-start c = search needs
+write-put-requires : tie.Need-write-put-requires
+write-put-requires c κs =
+    let t = c .before .before .before in
+    (omega (arith, text-size t, fits t .short), omega (arith, text-size t, vector-size t, size t, c .before .before .before .before .before .before .before .before .pre .1 .1))
 
-part-copy-end : tie.Need-part-copy-end
-part-copy-end c = search needs
+item-length-requires : tie.Need-item-length-requires
+item-length-requires c κs = let t = c .before .before .before .before .before .before in (c .before .before .before .before .before .before .before .before .before .before .before .pre .0, omega (arith, fits t .short))
 
-copy-requires : tie.Need-copy-requires
-copy-requires c κs = search needs
+add-result : tie.Need-add-result
+add-result c = let t = c .before .before .before .before .before .before .before in omega (arith, c .item-length .ensures, fits t .short, c .before .before .before .before .before .before .before .before .before .before .before .before .pre .0)
 
 same-length : tie.Need-same-length
 same-length c = search needs
 
 returns : tie.Need-returns
 returns c =
-    let a = c .before .before .before .before .before .before .before .before .before .before .before .before .before .before .before .before .before .before .before .args in
-    let o = now (a .out) in
-    let cs = now (a .coordinates) in
-    let text = now (a .caption) in
-    let id = bytes 8 (a .id) in
-    let vector = coordinateBytes cs in
-    let size = bytes 4 (length text) in
-    let o1 = c .before .before .before .before .before .before .before .before .before .before .before .before .before .before .put-u64 .last .0 in
-    let f1 : Front o id o1 = c .before .before .before .before .before .before .before .before .before .before .before .before .before .before .put-u64 .ensures ∙ front-number o [] o 0 8 (a .id) refl refl in
-    let l1 = length-bytes 8 (a .id) in
-    let f2 = front-lend o id vector o1 (c .before .before .before .before .before .before .before .before .before .before .write-coordinates .last .0) 8 f1 (sym l1) (c .before .before .before .before .before .before .before .before .before .before .write-coordinates .ensures) in
-    let l2 : 8 + 4 * length cs ≡ length (id ++ vector) = omega (arith, length-append id vector, length-coordinateBytes cs) in
-    let o3 = c .before .before .before .before .before .before .put-u32 .last .0 in
-    let f3 : Front o (id ++ vector ++ size) o3 = c .before .before .before .before .before .before .put-u32 .ensures ∙ front-number o (id ++ vector) _ (8 + 4 * length cs) 4 (length text) f2 l2 in
-    let l3 : 8 + 4 * length cs + 4 ≡ length (id ++ vector ++ size) = omega (arith, length-append (id ++ vector) size, length-bytes 4 (length text)) in
-    let f4 = front-lend o (id ++ vector ++ size) text o3 (c .before .before .copy .last .0) (8 + 4 * length cs + 4) f3 l3 (c .before .before .copy .ensures) in
-    let is : id ++ vector ++ size ++ text ≡ putFields (a .id) cs text = append-assoc (id ++ vector) size text ∙ append-assoc id vector (size ++ text) in
-    front-same o (id ++ vector ++ size ++ text) (putFields (a .id) cs text) _ is f4
+    let t = c .before .before .before .before .before .before .before in
+    let a = c .before .before .before .before .before .before .before .before .before .before .before .before .args in
+    let coords = now (a .coordinates) in
+    let n = a .o .«caption_length» in
+    let out = now (a .out) in (
+      omega (arith, size t, c .item-length .ensures),
+      c .before .before .before .write-put .ensures
+          ∙ ap₂ (λ (m : ℕ) (text : List ℕ). placed 0 (putFields (a .o .id .0) (take (a .config .dimensions) coords) m text) out) (text-size t) (text-is t)
+          ∙ ap (λ (l : List ℕ). placed 0 l out) (sym (put-fields (a .config .dimensions) coords (now (a .captions)) (a .o) (t .if1 .taken))),
+    )
+
+put-u64-requires : tie.Need-put-u64-requires
+put-u64-requires c κs =
+    let a = c .before .before .before .before .before .before .args in
+    omega (arith, delete-size (a .config .dimensions) (now (a .coordinates)) (now (a .captions)) (a .o) (c .before .if1 .left), c .before .before .before .before .before .before .pre .1 .1)
+
+same-length-2 : tie.Need-same-length-2
+same-length-2 c = search needs
+
+returns-2 : tie.Need-returns-2
+returns-2 c =
+    let a = c .before .before .before .before .before .before .before .before .before .args in
+    let left = c .before .before .before .before .if1 .left in (
+      sym (delete-size (a .config .dimensions) (now (a .coordinates)) (now (a .captions)) (a .o) left),
+      c .before .before .put-u64 .ensures ∙ ap (λ (l : List ℕ). placed 0 l (now (a .out))) (sym (delete-fields (a .config .dimensions) (now (a .coordinates)) (now (a .captions)) (a .o) left)),
+    )
 
 pub write-fields-spec : {M : Type 1} → statement M
 write-fields-spec =
     tie.close
     (tie.spec
-    put-u64-requires
-    sub-write-coordinates
-    part-write-coordinates-start
-    part-write-coordinates-end
-    write-coordinates-requires
-    mul-at
-    add-at
-    cast-put-u32
-    put-u32-requires
-    add-rest
-    sub-copy
-    part-copy-start
-    part-copy-end
-    copy-requires
+    add-stop
+    slice-aggregate-write-put
+    sub-write-put
+    part-write-put-start
+    part-write-put-end
+    write-put-requires
+    item-length-requires
+    add-result
     same-length
-    returns)
+    returns
+    put-u64-requires
+    same-length-2
+    returns-2)

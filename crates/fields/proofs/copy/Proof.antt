@@ -1,11 +1,12 @@
 -- `fields::copy` meets its contract. The invariant: the first i elements are the source's, and the rest is as it was lent. The measure is what is left of the source.
 -- Assumes nothing.
 use mathlib.Core.List.{List, _++_}
-use mathlib.Core.Path.{_≡_, refl, ap, _∙_}
+use mathlib.Core.Path.{_≡_, refl, sym, ap, _∙_}
 use Prim.Native.Nat.{ℕ, _≤_, _-_}
 use native.Mathlib.Omega.{arith}
 use borrow.Author.Needs.{needs}
 use lib.ListN.{length, getD, take, drop, set, length-set}
+use Rattle.fields.proofs.PlacedLaws.{placed-front}
 use Rattle.fields.proofs.Writers.{copy-more, copy-all}
 use Rattle.fields.proofs.copy.Statement.{statement}
 use Rattle.fields.proofs.copy.Tie as tie
@@ -45,7 +46,7 @@ returns : tie.Need-returns Inv-loop μ-loop
 returns c =
     let l = c .before .loop in
     let a = c .before .before .args in
-    l .inv .2 ∙ copy-all (l .i) (a .src .now) (a .out .now) (omega arith)
+    l .inv .2 ∙ copy-all (l .i) (a .src .now) (a .out .now) (omega arith) ∙ sym (placed-front (a .src .now) (a .out .now))
 
 pub copy-spec : {M : Type 1} → statement M
 copy-spec =

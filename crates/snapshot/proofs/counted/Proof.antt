@@ -1,123 +1,101 @@
 -- `counted` answers `countedHeader`: each return follows the tests that led there.
-use Prim.Native.Nat.{ℕ, _+_, _*_, _-_, _/_, _<_, _≤_}
+use Prim.Native.Nat.{ℕ, _-_, _/_, _<_, _≤_}
 use native.Mathlib.Omega.{arith}
 use mathlib.Core.Path.{_≡_, sym, ap, ap₂, _∙_}
+use borrow.Author.Tests.{lt-ltb, le-ltb}
 use borrow.Author.Needs.{needs}
 use denote.Ref.{now}
-use lib.ListN.{length}
 use Rattle.config.specs.Limits.{maxRecords}
-use Rattle.meaning.specs.Snapshot.{bodyLength, firstOf, countOf, sequenceOf, overSequence}
-use Rattle.snapshot.specs.Told.{headerTold, versionIs}
-use Rattle.snapshot.proofs.HeaderLaws.{roomFor, count-past, count-over-limit, count-over-room, count-over-sequence, count-good}
+use Rattle.layout.specs.Layout.{headerLength}
+use Rattle.meaning.specs.Snapshot.{bodyLength, headerCount, headerSequence, overSequence, countedHeader}
+use Rattle.snapshot.proofs.HeaderLaws.{roomFor}
 use Rattle.snapshot.proofs.counted.Statement.{statement}
 use Rattle.snapshot.proofs.counted.Tie as tie
 
-sub-body : tie.Need-sub-body
-sub-body c = search needs
+-- ---- what each test that was passed says
+first-inside : (c : tie.Else1) → let a = c .before .before .before .args in headerLength (a .version) ≤ bodyLength (now (a .s))
+first-inside c = let e = c .before .header-length .ensures .0 in omega arith
 
-extra-requires : tie.Need-extra-requires
-extra-requires c κs = search needs
+few : (c : tie.Else2) → let a = c .before .before .before .before .before .before .args in headerCount (a .version) (now (a .s)) ≤ maxRecords
+few c = let n = c .before .count-of .ensures in omega arith
 
-add-first : tie.Need-add-first
-add-first c = search needs
+room-is : (c : tie.After-record-length) → let l = c .before .before .before .before .before in
+    let a = l .before .before .args in
+    (bodyLength (now (a .s)) - l .header-length .result) / c .record-length .result ≡ roomFor (now (a .s)) (a .version) (a .config)
+room-is c =
+    let l = c .before .before .before .before .before in
+    ap₂ (λ (y z : ℕ). y / z) (ap (λ (n : ℕ). bodyLength (now (l .before .before .args .s)) - n) (l .header-length .ensures .0)) (c .record-length .ensures)
 
+enough : (c : tie.Else3) → let a = c .before .before .before .before .before .before .before .before .args in
+    headerCount (a .version) (now (a .s)) ≤ roomFor (now (a .s)) (a .version) (a .config)
+enough c = let n = c .before .before .before .count-of .ensures in let q = room-is (c .before) in omega arith
+
+tested : (c : tie.After-over-sequence) → let a = c .before .before .before .before .before .before .before .before .before .args in
+    overSequence (a .version) (headerSequence (a .version) (now (a .s))) (headerCount (a .version) (now (a .s))) ≡ c .over-sequence .result
+tested c =
+    let k = c .before .before .before .before in
+    sym (c .over-sequence .ensures ∙ ap₂ (overSequence (k .before .before .before .before .before .args .version)) (k .before .sequence-of .ensures) (k .count-of .ensures))
+
+-- ---- the needs
 returns : tie.Need-returns
+unfolding countedHeader
 returns c =
     let a = c .before .before .before .args in
-    let s = now (a .s) in
-    let v = versionIs (a .two) in
-    let x = c .before .extra .ensures .0 in
-    let h1 : bodyLength s < firstOf v = omega arith in
-    sym (ap headerTold (count-past s v (a .config) h1))
-
-sequence-of-requires : tie.Need-sequence-of-requires
-sequence-of-requires c κs = search needs
-
-count-of-requires : tie.Need-count-of-requires
-count-of-requires c κs = search needs
+    let e = c .before .header-length .ensures .0 in
+    let h : bodyLength (now (a .s)) < headerLength (a .version) = omega arith in
+    simp (lt-ltb _ _ h)
 
 returns-2 : tie.Need-returns-2
+unfolding countedHeader
 returns-2 c =
-    let a = c .before .before .before .before .before .before .args in
-    let s = now (a .s) in
-    let v = versionIs (a .two) in
-    let x = c .before .before .before .before .extra .ensures .0 in
-    let n : c .before .count-of .result ≡ countOf v s = c .before .count-of .ensures in
-    let h1 : firstOf v ≤ bodyLength s = omega arith in
-    let h2 : maxRecords < countOf v s = omega arith in
-    sym (ap headerTold (count-over-limit s v (a .config) h1 h2))
-
-mul-if3 : tie.Need-mul-if3
-mul-if3 c = search needs
-
-add-if3 : tie.Need-add-if3
-add-if3 c = search needs
+    let b = c .before .before .before in
+    let a = b .before .before .before .args in
+    let n = c .before .count-of .ensures in
+    let h : maxRecords < headerCount (a .version) (now (a .s)) = omega arith in
+    simp (le-ltb _ _ (first-inside b), lt-ltb _ _ h)
 
 div-if3 : tie.Need-div-if3
-div-if3 c = search needs
+div-if3 c = let e = c .record-length .ensures in omega arith
 
 returns-3 : tie.Need-returns-3
+unfolding countedHeader
 returns-3 c =
-    let a = c .before .before .before .before .before .before .before .args in
-    let s = now (a .s) in
-    let v = versionIs (a .two) in
-    let x = c .before .before .before .before .before .extra .ensures .0 in
-    let n : c .before .before .count-of .result ≡ countOf v s = c .before .before .count-of .ensures in
-    let q : roomFor s v (a .config) ≡ (length s - 4 - (48 + c .before .before .before .before .before .extra .result)) / (13 + 4 * a .config .dimensions) = ap₂ (λ (y z : ℕ). y / z) (omega arith) (omega arith) in
-    let h1 : firstOf v ≤ bodyLength s = omega arith in
-    let h2 : countOf v s ≤ maxRecords = omega arith in
-    let h3 : roomFor s v (a .config) < countOf v s = omega arith in
-    sym (ap headerTold (count-over-room s v (a .config) h1 h2 h3))
-
-over-sequence-requires : tie.Need-over-sequence-requires
-over-sequence-requires c κs = search needs
+    let b = c .before .before in
+    let a = b .before .before .before .before .before .before .args in
+    let n = b .before .count-of .ensures in
+    let q = room-is (c .before) in
+    let h : roomFor (now (a .s)) (a .version) (a .config) < headerCount (a .version) (now (a .s)) = omega arith in
+    simp (le-ltb _ _ (first-inside (b .before .before .before)), le-ltb _ _ (few b), lt-ltb _ _ h)
 
 returns-4 : tie.Need-returns-4
+unfolding countedHeader
 returns-4 c =
-    let a = c .before .before .before .before .before .before .before .before .before .args in
-    let s = now (a .s) in
-    let v = versionIs (a .two) in
-    let x = c .before .before .before .before .before .before .before .extra .ensures .0 in
-    let n : c .before .before .before .before .count-of .result ≡ countOf v s = c .before .before .before .before .count-of .ensures in
-    let q : roomFor s v (a .config) ≡ (length s - 4 - (48 + c .before .before .before .before .before .before .before .extra .result)) / (13 + 4 * a .config .dimensions) = ap₂ (λ (y z : ℕ). y / z) (omega arith) (omega arith) in
-    let h1 : firstOf v ≤ bodyLength s = omega arith in
-    let h2 : countOf v s ≤ maxRecords = omega arith in
-    let h3 : countOf v s ≤ roomFor s v (a .config) = omega arith in
-    let m : c .before .before .before .before .before .sequence-of .result ≡ sequenceOf v s = c .before .before .before .before .before .sequence-of .ensures in
-    let o = sym (ap₂ (overSequence v) m n) ∙ sym (c .before .over-sequence .ensures) in
-    sym (ap headerTold (count-over-sequence s v (a .config) h1 h2 h3 (o ∙ c .if4 .taken)))
+    let e = c .before .before in
+    let b = e .before .before in
+    simp (le-ltb _ _ (first-inside (b .before .before .before)), le-ltb _ _ (few b), le-ltb _ _ (enough e), tested (c .before) ∙ c .if4 .taken)
 
 returns-5 : tie.Need-returns-5
+unfolding countedHeader
 returns-5 c =
-    let a = c .before .before .before .before .before .before .before .before .before .args in
-    let s = now (a .s) in
-    let v = versionIs (a .two) in
-    let x = c .before .before .before .before .before .before .before .extra .ensures .0 in
-    let n : c .before .before .before .before .count-of .result ≡ countOf v s = c .before .before .before .before .count-of .ensures in
-    let q : roomFor s v (a .config) ≡ (length s - 4 - (48 + c .before .before .before .before .before .before .before .extra .result)) / (13 + 4 * a .config .dimensions) = ap₂ (λ (y z : ℕ). y / z) (omega arith) (omega arith) in
-    let h1 : firstOf v ≤ bodyLength s = omega arith in
-    let h2 : countOf v s ≤ maxRecords = omega arith in
-    let h3 : countOf v s ≤ roomFor s v (a .config) = omega arith in
-    let m : c .before .before .before .before .before .sequence-of .result ≡ sequenceOf v s = c .before .before .before .before .before .sequence-of .ensures in
-    let o = sym (ap₂ (overSequence v) m n) ∙ sym (c .before .over-sequence .ensures) in
-    let g = ap headerTold (count-good s v (a .config) h1 h2 h3 (o ∙ c .if4 .left)) in
-    cc
+    let e = c .before .before in
+    let b = e .before .before in
+    let n = b .before in
+    let l = n .before .before .before in
+    simp (le-ltb _ _ (first-inside (n .before .before)), le-ltb _ _ (few b), le-ltb _ _ (enough e), tested (c .before) ∙ c .if4 .left, n .count-of .ensures, n .before .sequence-of .ensures, l .header-length .ensures .0)
 
 pub counted-spec : {M : Type 1} → statement M
 counted-spec =
     tie.close
     (tie.spec
-    sub-body
-    extra-requires
-    add-first
+    (λ c. search needs)
+    (λ c κs. search needs)
     returns
-    sequence-of-requires
-    count-of-requires
+    (λ c κs. search needs)
+    (λ c κs. search needs)
     returns-2
-    mul-if3
-    add-if3
+    (λ c κs. search needs)
     div-if3
     returns-3
-    over-sequence-requires
+    (λ c κs. search needs)
     returns-4
     returns-5)

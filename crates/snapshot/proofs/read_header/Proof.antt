@@ -1,55 +1,57 @@
 -- `read_header` answers `readHeader`: each return follows the tests that led there.
-use mathlib.Core.Path.{sym, ap, _∙_}
+use mathlib.Core.Bool.{true}
+use mathlib.Core.Path.{_≡_, sym, _∙_}
+use borrow.Author.Tests.{lt-ltb, le-ltb, eq-eqb, ne-eqb}
 use borrow.Author.Needs.{needs}
 use denote.Ref.{now}
-use Rattle.meaning.specs.Snapshot.{Version, headerFor}
-use Rattle.meaning.specs.Refusal.{Result, _>>=_}
-use Rattle.snapshot.specs.Told.{headerTold}
-use Rattle.snapshot.proofs.HeaderLaws.{header-too-short, header-too-long, header-magic, header-version, version-one, version-two, version-wrong}
+use lib.Dec.{eqb}
+use Rattle.fields.specs.Fields.{num, le}
+use Rattle.layout.specs.Layout.{magic}
+use Rattle.meaning.specs.Snapshot.{readHeader}
+use Rattle.snapshot.proofs.HeaderLaws.{magic-number}
 use Rattle.snapshot.proofs.read_header.Statement.{statement}
 use Rattle.snapshot.proofs.read_header.Tie as tie
 
+right-magic : (c : tie.Else3) → eqb (num (now (c .before .before .before .before .before .args .s)) 0 8) (le magic) ≡ true
+right-magic c = eq-eqb _ _ (sym (c .before .get-u64 .ensures) ∙ c .if3 .left ∙ sym magic-number)
+
 returns : tie.Need-returns
-returns c = sym (ap headerTold (header-too-short (now (c .before .before .args .s)) (c .if1 .taken)))
+unfolding readHeader
+returns c = simp (lt-ltb _ _ (c .if1 .taken))
 
 returns-2 : tie.Need-returns-2
-returns-2 c = sym (ap headerTold (header-too-long (now (c .before .before .before .args .s)) (c .before .if1 .left) (c .if2 .taken)))
-
-get-u64-requires : tie.Need-get-u64-requires
-get-u64-requires c κs = search needs
+unfolding readHeader
+returns-2 c = simp (le-ltb _ _ (c .before .if1 .left), lt-ltb _ _ (c .if2 .taken))
 
 returns-3 : tie.Need-returns-3
-returns-3 c = sym (ap headerTold (header-magic (now (c .before .before .before .before .before .args .s)) (c .before .before .before .if1 .left) (c .before .before .if2 .left) (λ e. c .if3 .taken (c .before .get-u64 .ensures ∙ e))))
-
-get-u32-requires : tie.Need-get-u32-requires
-get-u32-requires c κs = search needs
-
-header-for-requires : tie.Need-header-for-requires
-header-for-requires c κs = search needs
-
-header-for-requires-2 : tie.Need-header-for-requires-2
-header-for-requires-2 c κs = search needs
+unfolding readHeader
+returns-3 c =
+    let b = c .before .before in
+    simp (le-ltb _ _ (b .before .if1 .left), le-ltb _ _ (b .if2 .left), ne-eqb _ (le magic) (λ e. c .if3 .taken (c .before .get-u64 .ensures ∙ e ∙ magic-number)))
 
 returns-4 : tie.Need-returns-4
+unfolding readHeader
 returns-4 c =
-    let s = now (c .before .before .before .before .before .before .before .before .args .s) in
-    let magic = header-version s (c .before .before .before .before .before .before .if1 .left) (c .before .before .before .before .before .if2 .left) (sym (c .before .before .before .before .get-u64 .ensures) ∙ c .before .before .before .if3 .left) in
-    let version = ap (λ (x : Result Version). x >>= headerFor s) (version-one _ (sym (c .before .before .get-u32 .ensures) ∙ c .before .match .keys1)) in
-    c .header-for .ensures ∙ sym (ap headerTold (magic ∙ version))
+    let m = c .before .before .before in
+    let b = m .before .before in
+    simp (le-ltb _ _ (b .before .if1 .left), le-ltb _ _ (b .if2 .left), right-magic m, sym (c .before .before .get-u32 .ensures) ∙ c .before .match .keys1)
+    (c .header-for .ensures)
 
 returns-5 : tie.Need-returns-5
+unfolding readHeader
 returns-5 c =
-    let s = now (c .before .before .before .before .before .before .before .before .args .s) in
-    let magic = header-version s (c .before .before .before .before .before .before .if1 .left) (c .before .before .before .before .before .if2 .left) (sym (c .before .before .before .before .get-u64 .ensures) ∙ c .before .before .before .if3 .left) in
-    let version = ap (λ (x : Result Version). x >>= headerFor s) (version-two _ (sym (c .before .before .get-u32 .ensures) ∙ c .before .match .keys2)) in
-    c .header-for2 .ensures ∙ sym (ap headerTold (magic ∙ version))
+    let m = c .before .before .before in
+    let b = m .before .before in
+    simp (le-ltb _ _ (b .before .if1 .left), le-ltb _ _ (b .if2 .left), right-magic m, sym (c .before .before .get-u32 .ensures) ∙ c .before .match .keys2)
+    (c .header-for2 .ensures)
 
 returns-6 : tie.Need-returns-6
+unfolding readHeader
 returns-6 c =
-    let s = now (c .before .before .before .before .before .before .before .args .s) in
-    let magic = header-version s (c .before .before .before .before .before .if1 .left) (c .before .before .before .before .if2 .left) (sym (c .before .before .before .get-u64 .ensures) ∙ c .before .before .if3 .left) in
-    let version = ap (λ (x : Result Version). x >>= headerFor s) (version-wrong _ (λ e. c .match .rest .0 .1 (c .before .get-u32 .ensures ∙ e)) (λ e. c .match .rest .1 (c .before .get-u32 .ensures ∙ e))) in
-    sym (ap headerTold (magic ∙ version))
+    let m = c .before .before in
+    let b = m .before .before in
+    let n = c .before .get-u32 .ensures in
+    simp (le-ltb _ _ (b .before .if1 .left), le-ltb _ _ (b .if2 .left), right-magic m, ne-eqb _ 1 (λ e. c .match .rest .0 .1 (n ∙ e)), ne-eqb _ 2 (λ e. c .match .rest .1 (n ∙ e)))
 
 pub read-header-spec : {M : Type 1} → statement M
 read-header-spec =
@@ -57,11 +59,11 @@ read-header-spec =
     (tie.spec
     returns
     returns-2
-    get-u64-requires
+    (λ c κs. search needs)
     returns-3
-    get-u32-requires
-    header-for-requires
-    header-for-requires-2
+    (λ c κs. search needs)
+    (λ c κs. search needs)
+    (λ c κs. search needs)
     returns-4
     returns-5
     returns-6)

@@ -1,50 +1,54 @@
 -- `find` scans the table from its front. The invariant: the scan from node i on gives what the whole scan gives.
 use Prim.Native.Nat.{ℕ, _+_, _-_, _≤_}
 use native.Mathlib.Omega.{arith}
-use mathlib.Core.Path.{_≡_, refl, sym, ap, _∙_}
-use mathlib.Core.Bool.{Bool}
+use mathlib.Core.Path.{_≡_, sym, ap, _∙_}
+use mathlib.Core.Bool.{cond}
 use borrow.Author.Needs.{needs}
-use Rattle.rows.specs.Lent.{rowsLentPlain}
-use Rattle.rows.specs.declared.Row.{Row}
 use Rattle.meaning.specs.Replay.{liveAs}
-use Rattle.meaning.specs.Rows.{rowKind}
-use Rattle.meaning.specs.Tables.{unpackedRow, rowsFrom, rowsIn}
-use Rattle.meaning.specs.Views.{findFrom}
+use Rattle.meaning.specs.Records.{rowKind}
+use Rattle.meaning.specs.Tables.{rowsFrom, rowsIn}
+use Rattle.meaning.specs.Views.{Lookup, node, findFrom}
+use Rattle.meaning.proofs.TableSteps.{rows-all}
 use Rattle.views.specs.Told.{found}
-use Rattle.views.proofs.FindLaws.{find-here, find-on, find-none}
+use Rattle.views.proofs.FindLaws.{find-next, find-none}
 use Rattle.views.proofs.find.Statement.{statement}
 use Rattle.views.proofs.find.Tie as tie
 
 abbrev Inv-loop : tie.InvT-loop
-Inv-loop rows count id i₀ i =
-    (i ≤ count) × (count ≤ rowsLentPlain rows)
-    × (findFrom (id .0) i (rowsFrom (count - i) i rows) ≡ findFrom (id .0) 0 (rowsIn count rows))
+Inv-loop rows count id i₀ i = (i ≤ count) × (findFrom (id .0) i (rowsFrom (count - i) i rows) ≡ findFrom (id .0) 0 (rowsIn count rows))
 
 abbrev μ-loop : tie.MeasureT-loop
 μ-loop rows count id i₀ i = count - i
 
+-- the scan from node i on, and the whole
+abbrev from : tie.Start Inv-loop μ-loop → ℕ → Lookup
+from s i = findFrom (s .args .id .0) i (rowsFrom (s .args .count - i) i (s .args .rows .now))
+
+abbrev whole : tie.Start Inv-loop μ-loop → Lookup
+whole s = findFrom (s .args .id .0) 0 (rowsIn (s .args .count) (s .args .rows .now))
+
+-- the row of node i ends the scan, or the rows behind it do
+turn : (c : tie.After-live-as Inv-loop μ-loop) → cond (c .live-as .result) (node (c .before .before .before .loop .i)) (from (c .before .before .before .before .before) (c .before .before .before .loop .i + 1)) ≡ whole (c .before .before .before .before .before)
+turn c =
+    let a = c .before .before .before .before .before .args in
+    let l = c .before .before .before .loop in
+    let live = c .live-as .ensures ∙ ap (liveAs (rowKind 0) (a .id .0)) (c .before .row-at .ensures) in
+    sym (find-next (a .rows .now) (a .count) (a .id .0) (l .i) (c .before .before .loop-test .taken) (c .live-as .result) live) ∙ l .inv .1
+
 loop-holds : tie.Need-loop-holds Inv-loop μ-loop
-loop-holds c =
-    let count = c .before .args .count in
-    let e : count - 0 ≡ count = omega arith in
-    (search needs, search needs, ap (λ (n : ℕ). findFrom (c .before .args .id .0) 0 (rowsFrom n 0 (c .before .args .rows .now))) e)
+loop-holds c = (omega arith, ap (findFrom (c .before .args .id .0) 0) (rows-all (c .before .args .rows .now) (c .before .args .count)))
 
 cast-t7 : tie.Need-cast-t7 Inv-loop μ-loop
-cast-t7 c = search needs
+cast-t7 c = omega (arith, c .before .before .before .pre)
 
 row-at-requires : tie.Need-row-at-requires Inv-loop μ-loop
-row-at-requires c κs = search needs
+row-at-requires c κs = omega (arith, c .before .before .before .pre)
 
 live-as-requires : tie.Need-live-as-requires Inv-loop μ-loop
 live-as-requires c κs = search needs
 
 returns : tie.Need-returns Inv-loop μ-loop
-returns c =
-    let l = c .before .before .before .before .loop in
-    let a = c .before .before .before .before .before .before .args in
-    let same : liveAs (rowKind 0) (a .id .0) (unpackedRow (c .before .before .row-at .result)) ≡ _ = sym (c .before .live-as .ensures) ∙ c .if1 .taken in
-    let e = sym (ap (λ (r : Row). liveAs (rowKind 0) (a .id .0) (unpackedRow r)) (c .before .before .row-at .ensures)) ∙ same in
-    ap found (sym (find-here (a .rows .now) (a .count) (a .id .0) (l .i) (omega arith) e) ∙ l .inv .2)
+returns c = ap found (rw (c .if1 .taken) at (turn (c .before)))
 
 add-i : tie.Need-add-i Inv-loop μ-loop
 add-i c = search needs
@@ -53,18 +57,13 @@ loop-less : tie.Need-loop-less Inv-loop μ-loop
 loop-less c = search needs
 
 loop-again : tie.Need-loop-again Inv-loop μ-loop
-loop-again c =
-    let l = c .before .before .before .before .loop in
-    let a = c .before .before .before .before .before .before .args in
-    let same : liveAs (rowKind 0) (a .id .0) (unpackedRow (c .before .before .row-at .result)) ≡ _ = sym (c .before .live-as .ensures) ∙ c .if1 .left in
-    let e = sym (ap (λ (r : Row). liveAs (rowKind 0) (a .id .0) (unpackedRow r)) (c .before .before .row-at .ensures)) ∙ same in
-    (omega arith, l .inv .1, sym (find-on (a .rows .now) (a .count) (a .id .0) (l .i) (omega arith) e) ∙ l .inv .2)
+loop-again c = (omega arith, rw (c .if1 .left) at (turn (c .before)))
 
 returns-2 : tie.Need-returns-2 Inv-loop μ-loop
 returns-2 c =
-    let l = c .before .loop in
     let a = c .before .before .before .args in
-    ap found (sym (find-none (a .rows .now) (a .count) (a .id .0) (l .i) (omega arith)) ∙ l .inv .2)
+    let l = c .before .loop in
+    ap found (sym (find-none (a .rows .now) (a .count) (a .id .0) (l .i) (omega arith)) ∙ l .inv .1)
 
 pub find-spec : {M : Type 1} → statement M
 find-spec =

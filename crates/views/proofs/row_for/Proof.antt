@@ -1,13 +1,10 @@
 -- `row_for` has the tests of `rowFor` in order.
-use Prim.Native.Nat.{ℕ, _+_, _*_, _<_, _≤_}
+use Prim.Native.Nat.{_<_, _≤_}
 use native.Mathlib.Omega.{arith}
-use mathlib.Core.Path.{_≡_, refl, sym, ap, ap₂, subst, _∙_}
-use mathlib.Core.Bool.{Bool, true, false, cond}
-use lib.ListN.{length}
 use borrow.Author.Needs.{needs}
 use borrow.Author.Tests.{lt-ltb, le-ltb, le-leb, lt-leb}
 use Rattle.rows.specs.Lent.{rowsLentPlain}
-use Rattle.views.specs.Steps.{rowFor}
+use Rattle.meaning.specs.Views.{rowFor}
 use Rattle.views.proofs.row_for.Statement.{statement}
 use Rattle.views.proofs.row_for.Tie as tie
 

@@ -1,54 +1,61 @@
 -- `any_misfits` scans the table. The invariant: the rows from node i on answer as all do.
-use Prim.Native.Nat.{ℕ, _+_, _-_, _<_, _≤_}
+use Prim.Native.Nat.{ℕ, _+_, _-_, _≤_}
 use native.Mathlib.Omega.{arith}
-use mathlib.Core.Path.{_≡_, refl, sym, ap, ap₂, subst, _∙_}
-use mathlib.Core.Bool.{Bool, true, false, cond}
-use lib.ListN.{length}
+use mathlib.Core.Path.{_≡_, sym, ap, subst, _∙_}
+use mathlib.Core.Bool.{Bool, true, cond}
+use mathlib.Core.List.{List}
 use borrow.Author.Needs.{needs}
-use borrow.Author.Tests.{lt-ltb, le-ltb, le-leb, lt-leb}
-use Rattle.rows.specs.Lent.{rowsLentPlain}
-use Rattle.rows.specs.Rows.{rowAt, RowFits}
+use Rattle.rows.specs.Rows.{RowFits}
 use Rattle.rows.specs.declared.Row.{Row}
-use Rattle.meaning.specs.Tables.{unpackedRow, rowsFrom, rowsIn}
-use Rattle.meaning.proofs.TableSteps.{fits-at, rows-next, rows-over}
+use Rattle.meaning.specs.Tables.{rowsFrom, rowsIn}
 use Rattle.meaning.specs.Writer.{misfit, anyMisfit}
-use Rattle.writer.proofs.WrittenLaws.{any-here, any-on, any-none}
+use Rattle.meaning.proofs.TableSteps.{fits-at, rows-all, rows-next, rows-over}
+use Rattle.writer.proofs.WrittenLaws.{any-row, any-none}
 use Rattle.writer.proofs.any_misfits.Statement.{statement}
 use Rattle.writer.proofs.any_misfits.Tie as tie
 
 abbrev Inv-loop : tie.InvT-loop
 Inv-loop config rows count snapshot log i₀ i =
-    (i ≤ count) × (count ≤ rowsLentPlain rows) × (config .dimensions ≤ 4096)
-    × (anyMisfit config snapshot log (rowsFrom (count - i) i rows) ≡ anyMisfit config snapshot log (rowsIn count rows))
+    (i ≤ count) × (anyMisfit config snapshot log (rowsFrom (count - i) i rows) ≡ anyMisfit config snapshot log (rowsIn count rows))
 
 abbrev μ-loop : tie.MeasureT-loop
-μ-loop config rows count snapshot log i₀ i = count - i
+μ-loop config rows count snapshot log i₀ i =
+    count - i
+
+abbrev any : tie.Start Inv-loop μ-loop → List Row → Bool
+any s = anyMisfit (s .args .config) (s .args .snapshot .now) (s .args .log .now)
+
+-- the rows from node i on
+abbrev from : tie.Start Inv-loop μ-loop → ℕ → List Row
+from s i = rowsFrom (s .args .count - i) i (s .args .rows .now)
+
+abbrev whole : tie.Start Inv-loop μ-loop → Bool
+whole s = any s (rowsIn (s .args .count) (s .args .rows .now))
+
+-- the row of node i misfits, or one behind it does
+turn : (c : tie.After-misfits Inv-loop μ-loop) → cond (c .misfits .result) true (any (c .before .before .before .before .before .before .before) (from (c .before .before .before .before .before .before .before) (c .before .before .before .loop .i + 1))) ≡ whole (c .before .before .before .before .before .before .before)
+turn c =
+    let s = c .before .before .before .before .before .before .before in
+    let a = s .args in
+    let m = c .misfits .ensures ∙ ap (misfit (a .config) (a .snapshot .now) (a .log .now)) (c .before .row-at .ensures) in
+    ap (λ (t : Bool). cond t true (any s (from s (c .before .before .before .loop .i + 1)))) m
+    ∙ sym (any-row (a .config) (a .snapshot .now) (a .log .now) _ _) ∙ sym (ap (any s) (rows-next (a .rows .now) (a .count) (c .before .before .before .loop .i) (c .before .before .loop-test .taken)))
+    ∙ c .before .before .before .loop .inv .1
 
 loop-holds : tie.Need-loop-holds Inv-loop μ-loop
-loop-holds c =
-    let a = c .before .before .before .args in
-    let e : a .count - 0 ≡ a .count = omega arith in
-    (search needs, c .before .before .before .pre .1, c .before .before .before .pre .0, ap (λ (n : ℕ). anyMisfit (a .config) (a .snapshot .now) (a .log .now) (rowsFrom n 0 (a .rows .now))) e)
+loop-holds c = (omega arith, ap (any (c .before .before .before)) (rows-all (c .before .before .before .args .rows .now) (c .before .before .before .args .count)))
 
 cast-t10 : tie.Need-cast-t10 Inv-loop μ-loop
-cast-t10 c = search needs
+cast-t10 c = omega (arith, c .before .before .before .before .before .pre .1)
 
 row-at-requires : tie.Need-row-at-requires Inv-loop μ-loop
-row-at-requires c κs = search needs
+row-at-requires c κs = omega (arith, c .before .before .before .before .before .pre .1)
 
 misfits-requires : tie.Need-misfits-requires Inv-loop μ-loop
-misfits-requires c κs =
-    let l = c .before .before .loop in
-    (l .inv .2, subst RowFits (sym (c .row-at .ensures)) (fits-at (c .before .before .before .before .before .before .args .rows .now) (l .i)))
+misfits-requires c κs = (c .before .before .before .before .before .before .pre .0, subst RowFits (sym (c .row-at .ensures)) (fits-at (c .before .before .before .before .before .before .args .rows .now) (c .before .before .loop .i)))
 
 returns : tie.Need-returns Inv-loop μ-loop
-returns c =
-    let a = c .before .before .before .before .before .before .before .before .args in
-    let l = c .before .before .before .before .loop in
-    let m : Row → Bool = λ r. misfit (a .config) (a .snapshot .now) (a .log .now) (unpackedRow r) in
-    let e : m (rowAt (a .rows .now) (l .i)) ≡ true = sym (ap m (c .before .before .row-at .ensures)) ∙ sym (c .before .misfits .ensures) ∙ c .if1 .taken in
-    sym (any-here (a .config) (a .snapshot .now) (a .log .now) _ _ e)
-    ∙ sym (ap (anyMisfit (a .config) (a .snapshot .now) (a .log .now)) (rows-next (a .rows .now) (a .count) (l .i) (omega arith))) ∙ l .inv .3
+returns c = rw (c .if1 .taken) at (turn (c .before))
 
 add-i : tie.Need-add-i Inv-loop μ-loop
 add-i c = search needs
@@ -57,24 +64,12 @@ loop-less : tie.Need-loop-less Inv-loop μ-loop
 loop-less c = search needs
 
 loop-again : tie.Need-loop-again Inv-loop μ-loop
-loop-again c =
-    let a = c .before .before .before .before .before .before .before .before .args in
-    let l = c .before .before .before .before .loop in
-    let m : Row → Bool = λ r. misfit (a .config) (a .snapshot .now) (a .log .now) (unpackedRow r) in
-    let e : m (rowAt (a .rows .now) (l .i)) ≡ false = sym (ap m (c .before .before .row-at .ensures)) ∙ sym (c .before .misfits .ensures) ∙ c .if1 .left in (
-      omega arith,
-      l .inv .1,
-      l .inv .2,
-      sym (any-on (a .config) (a .snapshot .now) (a .log .now) _ _ e)
-          ∙ sym (ap (anyMisfit (a .config) (a .snapshot .now) (a .log .now)) (rows-next (a .rows .now) (a .count) (l .i) (omega arith))) ∙ l .inv .3,
-    )
+loop-again c = (omega arith, rw (c .if1 .left) at (turn (c .before)))
 
 returns-2 : tie.Need-returns-2 Inv-loop μ-loop
 returns-2 c =
-    let a = c .before .before .before .before .before .args in
-    let l = c .before .loop in
-    sym (any-none (a .config) (a .snapshot .now) (a .log .now))
-    ∙ sym (ap (anyMisfit (a .config) (a .snapshot .now) (a .log .now)) (rows-over (a .rows .now) (a .count) (l .i) (omega arith))) ∙ l .inv .3
+    let s = c .before .before .before .before .before in
+    sym (ap (any s) (rows-over (s .args .rows .now) (s .args .count) (c .before .loop .i) (omega arith)) ∙ any-none (s .args .config) (s .args .snapshot .now) (s .args .log .now)) ∙ c .before .loop .inv .1
 
 pub any-misfits-spec : {M : Type 1} → statement M
 any-misfits-spec =

@@ -1,11 +1,5 @@
--- the test of a deleted row
-use Prim.Native.Nat.{ℕ, _+_, _*_, _<_, _≤_}
-use native.Mathlib.Omega.{arith}
-use mathlib.Core.Path.{_≡_, refl, sym, ap, ap₂, subst, _∙_}
-use mathlib.Core.Bool.{Bool, true, false, cond}
-use lib.ListN.{length}
+-- A deleted row has no caption length.
 use borrow.Author.Needs.{needs}
-use borrow.Author.Tests.{lt-ltb, le-ltb, le-leb, lt-leb}
 use Rattle.writer.proofs.deleted_with.Statement.{statement}
 use Rattle.writer.proofs.deleted_with.Tie as tie
 

@@ -1,69 +1,48 @@
 -- `misfits` has the tests of `misfit` in order.
-use Prim.Native.Nat.{ℕ, _+_, _*_, _<_, _≤_}
-use native.Mathlib.Omega.{arith}
-use mathlib.Core.Path.{_≡_, refl, sym, ap, ap₂, subst, _∙_}
-use mathlib.Core.Bool.{Bool, true, false, cond}
-use lib.ListN.{length}
+use mathlib.Core.Path.{_≡_, sym, ap, _∙_}
+use mathlib.Core.Bool.{Bool}
+use Rattle.sources.specs.Sources.{outside, shownPart}
+use Rattle.sources.specs.declared.Part.{Part}
+use Rattle.sources.specs.declared.Shown.the-variants.{Caption}
 use borrow.Author.Needs.{needs}
-use borrow.Author.Tests.{lt-ltb, le-ltb, le-leb, lt-leb}
-use Rattle.meaning.specs.Rows.{source, captionStart}
-use Rattle.meaning.specs.Tables.{unpackedRow}
-use Rattle.writer.proofs.WrittenLaws.{misfit-outside}
 use Rattle.writer.proofs.misfits.Statement.{statement}
 use Rattle.writer.proofs.misfits.Tie as tie
 
-mul-end : tie.Need-mul-end
-mul-end c = search needs
+abbrev passes : tie.Start → Part → Bool
+passes s = outside (s .args .snapshot .now) (s .args .log .now)
 
-add-end : tie.Need-add-end
-add-end c = search needs
+tested : (c : tie.After-outside) → passes (c .before .before .before .before) (shownPart Caption (c .before .before .before .before .args .config .dimensions) (c .before .before .before .before .args .row)) ≡ c .outside .result
+tested c = sym (c .outside .ensures ∙ ap (passes (c .before .before .before .before)) (c .before .shown-part .ensures))
 
-add-end-2 : tie.Need-add-end-2
-add-end-2 c = search needs
+shown-part-requires : tie.Need-shown-part-requires
+shown-part-requires c κs = search needs
 
-add-end-3 : tie.Need-add-end-3
-add-end-3 c = search needs
-
-source-length-requires : tie.Need-source-length-requires
-source-length-requires c κs = search needs
+outside-requires : tie.Need-outside-requires
+outside-requires c κs = search needs
 
 returns : tie.Need-returns
-returns c =
-    let a = c .before .before .before .before .before .args in
-    let r = unpackedRow (a .row) in
-    let e = c .before .source-length .ensures in
-    let h : length (source (a .snapshot .now) (a .log .now) r) < captionStart (a .config .dimensions) r + r .caption = omega arith in
-    sym (misfit-outside (a .config) (a .snapshot .now) (a .log .now) r h)
+returns c = simp (tested (c .before) ∙ c .if1 .taken)
 
 deleted-with-requires : tie.Need-deleted-with-requires
 deleted-with-requires c κs = search needs
 
 returns-2 : tie.Need-returns-2
-returns-2 c =
-    let r = unpackedRow (c .before .before .before .before .before .before .before .args .row) in
-    let a = c .before .before .before .before .before .before .before .args in
-    let e = c .before .before .before .source-length .ensures in
-    let h : captionStart (a .config .dimensions) r + r .caption ≤ length (source (a .snapshot .now) (a .log .now) r) = omega (arith, e, c .before .before .if1 .left) in
-    simp (le-ltb _ _ h, sym (c .before .deleted-with .ensures) ∙ c .if2 .taken)
+returns-2 c = simp (tested (c .before .before .before) ∙ c .before .before .if1 .left, sym (c .before .deleted-with .ensures) ∙ c .if2 .taken)
+
+caption-limit-requires : tie.Need-caption-limit-requires
+caption-limit-requires c κs = search needs
 
 returns-3 : tie.Need-returns-3
-returns-3 c =
-    let r = unpackedRow (c .before .before .before .before .before .before .before .args .row) in
-    let a = c .before .before .before .before .before .before .before .args in
-    let e = c .before .before .before .source-length .ensures in
-    let h : captionStart (a .config .dimensions) r + r .caption ≤ length (source (a .snapshot .now) (a .log .now) r) = omega (arith, e, c .before .before .if1 .left) in
-    simp (le-ltb _ _ h, sym (c .before .deleted-with .ensures) ∙ c .if2 .left)
+returns-3 c = simp (tested (c .before .before .before .before) ∙ c .before .before .before .if1 .left, sym (c .before .before .deleted-with .ensures) ∙ c .before .if2 .left, c .caption-limit .ensures)
 
 pub misfits-spec : {M : Type 1} → statement M
 misfits-spec =
     tie.close
     (tie.spec
-    mul-end
-    add-end
-    add-end-2
-    add-end-3
-    source-length-requires
+    shown-part-requires
+    outside-requires
     returns
     deleted-with-requires
     returns-2
+    caption-limit-requires
     returns-3)

@@ -1,15 +1,11 @@
 -- The CRC of the front, put behind it.
-use Prim.Native.Nat.{ℕ, _+_, _*_, _<_, _≤_}
+use Prim.Native.Nat.{ℕ}
 use native.Mathlib.Omega.{arith}
-use mathlib.Core.Path.{_≡_, refl, sym, ap, ap₂, subst, _∙_}
-use mathlib.Core.Bool.{Bool, true, false, cond}
-use lib.ListN.{length}
-use borrow.Author.Needs.{needs}
-use borrow.Author.Tests.{lt-ltb, le-ltb, le-leb, lt-leb}
+use mathlib.Core.Path.{sym, ap, _∙_}
 use lib.Seq.{length-take-le}
-use Rattle.writer.proofs.PlacedLaws.{placed-bytes}
 use Rattle.fields.specs.Fields.{bytes}
-use Rattle.writer.specs.Steps.{placed}
+use Rattle.fields.specs.Placed.{placed}
+use borrow.Author.Needs.{needs}
 use Rattle.writer.proofs.write_crc.Statement.{statement}
 use Rattle.writer.proofs.write_crc.Tie as tie
 
@@ -31,8 +27,7 @@ same-length c = search needs
 returns : tie.Need-returns
 returns c =
     let a = c .before .before .before .before .before .before .before .args in
-    c .before .before .put-u32 .ensures ∙ placed-bytes 4 (c .before .before .before .before .crc32 .result) (a .n) (a .out .now)
-    ∙ ap (λ (v : ℕ). placed (a .n) (bytes 4 v) (a .out .now)) (c .before .before .before .before .crc32 .ensures)
+    c .before .before .put-u32 .ensures ∙ ap (λ (v : ℕ). placed (a .n) (bytes 4 v) (a .out .now)) (c .before .before .before .before .crc32 .ensures)
 
 pub write-crc-spec : {M : Type 1} → statement M
 write-crc-spec =

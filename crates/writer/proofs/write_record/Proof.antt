@@ -1,23 +1,22 @@
 -- `write_record` puts the five parts of a record one behind the other.
-use Prim.Native.Nat.{ℕ, _+_, _*_, _<_, _≤_}
+use Prim.Native.Nat.{ℕ, _+_, _≤_}
 use native.Mathlib.Omega.{arith}
-use mathlib.Core.Path.{_≡_, refl, sym, ap, ap₂, subst, _∙_}
-use mathlib.Core.Bool.{Bool, true, false, cond}
+use mathlib.Core.Path.{refl, ap, _∙_}
+use mathlib.Core.List.{List, append-assoc}
 use lib.ListN.{length}
-use borrow.Author.Needs.{needs}
-use borrow.Author.Tests.{lt-ltb, le-ltb, le-leb, lt-leb}
-use mathlib.Core.List.{List, [], _++_}
-use Rattle.fields.specs.Fields.{part, bytes}
-use Rattle.fields.proofs.Parts.{length-part}
+use Rattle.fields.specs.Placed.{placed}
 use Rattle.fields.proofs.Numbers.{length-bytes}
-use Rattle.meaning.specs.Rows.{source, captionStart, seen}
-use Rattle.meaning.specs.Tables.{unpackedRow}
-use lib.ListN.{length-append}
-use Rattle.writer.specs.Steps.{placed}
-use Rattle.writer.proofs.PlacedLaws.{placed-bytes, then-placed, then-bytes}
-use Rattle.writer.proofs.WrittenLaws.{record-parts}
+use Rattle.writer.proofs.Stands.{then-part, then-field}
+use Rattle.writer.proofs.WrittenLaws.{length-vector, length-caption}
+use borrow.Author.Needs.{needs}
 use Rattle.writer.proofs.write_record.Statement.{statement}
 use Rattle.writer.proofs.write_record.Tie as tie
+
+record-length-requires : tie.Need-record-length-requires
+record-length-requires c κs = search needs
+
+add-end : tie.Need-add-end
+add-end c = search needs
 
 add-vector : tie.Need-add-vector
 add-vector c = search needs
@@ -40,20 +39,8 @@ flag-requires c κs = search needs
 put-u8-requires : tie.Need-put-u8-requires
 put-u8-requires c κs = search needs
 
-mul-cut : tie.Need-mul-cut
-mul-cut c = search needs
-
-cut-requires : tie.Need-cut-requires
-cut-requires c κs = search needs
-
-put-bytes-requires : tie.Need-put-bytes-requires
-put-bytes-requires c κs =
-    let s = c .before .before .before .before .before .before .before .before .before .before .before .before .before .before .before in
-    let a = s .args in
-    let R = unpackedRow (a .row) in
-    let h = s .pre .1 .1 .0 in
-    let e = ap length (c .cut .ensures .0) ∙ length-part (source (a .snapshot .now) (a .log .now) R) (R .at) (4 * a .d) (omega arith) in
-    omega (arith, e, s .pre .1 .1 .1, c .before .before .before .before .put-u8 .kept .0, c .before .before .before .before .before .before .before .before .before .put-u64 .kept .0)
+copy-shown-requires : tie.Need-copy-shown-requires
+copy-shown-requires c κs = search needs
 
 cast-put-u32 : tie.Need-cast-put-u32
 cast-put-u32 c = search needs
@@ -61,81 +48,42 @@ cast-put-u32 c = search needs
 put-u32-requires : tie.Need-put-u32-requires
 put-u32-requires c κs = search needs
 
-add-put-bytes : tie.Need-add-put-bytes
-add-put-bytes c = search needs
+add-copy-shown : tie.Need-add-copy-shown
+add-copy-shown c = search needs
 
-mul-cut-2 : tie.Need-mul-cut-2
-mul-cut-2 c = search needs
-
-add-cut : tie.Need-add-cut
-add-cut c = search needs
-
-add-cut-2 : tie.Need-add-cut-2
-add-cut-2 c = search needs
-
-cut-requires-2 : tie.Need-cut-requires-2
-cut-requires-2 c κs = search needs
-
-put-bytes-requires-2 : tie.Need-put-bytes-requires-2
-put-bytes-requires-2 c κs =
-    let s = c .before .before .before .before .before .before .before .before .before .before .before .before .before .before .before .before .before .before .before .before .before .before .before .before in
-    let a = s .args in
-    let R = unpackedRow (a .row) in
-    let h = s .pre .1 .1 .0 in
-    let e = ap length (c .cut2 .ensures .0) ∙ length-part (source (a .snapshot .now) (a .log .now) R) (captionStart (a .d) R) (R .caption) h in
-    omega (arith, e, s .pre .1 .1 .1, c .before .before .before .before .put-u32 .kept .0, c .before .before .before .before .before .before .before .before .put-bytes .kept .0, c .before .before .before .before .before .before .before .before .before .before .before .before .before .put-u8 .kept .0, c .before .before .before .before .before .before .before .before .before .before .before .before .before .before .before .before .before .before .put-u64 .kept .0)
-
-add-result : tie.Need-add-result
-add-result c = omega (arith, c .before .before .before .before .before .before .before .before .before .before .before .before .before .before .before .before .before .before .before .before .before .before .before .before .before .before .before .pre .1 .1 .1, c .before .before .before .before .before .before .before .before .before .before .before .before .before .before .before .before .before .before .before .before .before .before .before .before .before .before .before .good)
-
-add-result-2 : tie.Need-add-result-2
-add-result-2 c = omega (arith, c .before .before .before .before .before .before .before .before .before .before .before .before .before .before .before .before .before .before .before .before .before .before .before .before .before .before .before .pre .1 .1 .1, c .before .before .before .before .before .before .before .before .before .before .before .before .before .before .before .before .before .before .before .before .before .before .before .before .before .before .before .good)
+copy-shown-requires-2 : tie.Need-copy-shown-requires-2
+copy-shown-requires-2 c κs = search needs
 
 same-length : tie.Need-same-length
 same-length c = search needs
 
 returns : tie.Need-returns
 returns c =
-    let s = c .before .before .before .before .before .before .before .before .before .before .before .before .before .before .before .before .before .before .before .before .before .before .before .before .before .before .before in
+    let p5 = c .before .before in
+    let p4 = p5 .before .before .before .before in
+    let p3 = p4 .before .before .before .before in
+    let p2 = p3 .before .before .before .before in
+    let p1 = p2 .before .before .before .before .before in
+    let s = p1 .before .before .before .before .before .before .before in
     let a = s .args in
     let o = a .out .now in
-    let R = unpackedRow (a .row) in
-    let S = source (a .snapshot .now) (a .log .now) R in
-    let h = s .pre .1 .1 .0 in
-    let room = s .pre .1 .1 .1 in
-    let i : a .at ≤ length o = omega (arith, room) in
-    let one = c .before .before .before .before .before .before .before .before .before .before .before .before .before .before .before .before .before .before .before .before .before .put-u64 .last .0 in
-    let two = c .before .before .before .before .before .before .before .before .before .before .before .before .before .before .before .before .put-u8 .last .0 in
-    let three = c .before .before .before .before .before .before .before .before .before .before .before .put-bytes .last .0 in
-    let four = c .before .before .before .before .before .before .before .put-u32 .last .0 in
-    let five = c .before .before .put-bytes2 .last .0 in
-    let f = c .before .before .before .before .before .before .before .before .before .before .before .before .before .before .before .before .before .flag .result in
-    let v = c .before .before .before .before .before .before .before .before .before .before .before .before .cut .result .now in
-    let k = c .before .before .before .cut2 .result .now in
-    let A = bytes 8 (R .id) in
-    let B = bytes 1 f in
-    let N = bytes 4 (R .caption) in
-    let lA = length-bytes 8 (R .id) in
-    let lB = length-bytes 1 f in
-    let lN = length-bytes 4 (R .caption) in
-    let lv : length v ≡ 4 * a .d = ap length (c .before .before .before .before .before .before .before .before .before .before .before .before .cut .ensures .0) ∙ length-part S (R .at) (4 * a .d) (omega arith) in
-    let l2 = length-append A B in
-    let l3 = length-append (A ++ B) v in
-    let l4 = length-append ((A ++ B) ++ v) N in
-    let q1 : one ≡ placed (a .at) A o = c .before .before .before .before .before .before .before .before .before .before .before .before .before .before .before .before .before .before .before .before .before .put-u64 .ensures ∙ placed-bytes 8 (R .id) (a .at) o in
-    let q2 : two ≡ placed (a .at) (A ++ B) o = then-bytes 1 f (a .at) A o one two (a .at + 8) i q1 (omega (arith, lA)) (c .before .before .before .before .before .before .before .before .before .before .before .before .before .before .before .before .put-u8 .ensures) in
-    let q3 : three ≡ placed (a .at) ((A ++ B) ++ v) o = then-placed (a .at) (A ++ B) v o two three (a .at + 9) i q2 (omega (arith, lA, lB, l2)) (c .before .before .before .before .before .before .before .before .before .before .before .put-bytes .ensures) in
-    let q4 : four ≡ placed (a .at) (((A ++ B) ++ v) ++ N) o
-    = then-bytes 4 (R .caption) (a .at) ((A ++ B) ++ v) o three four (a .at + 9 + 4 * a .d) i q3 (omega (arith, lA, lB, l2, l3, lv)) (c .before .before .before .before .before .before .before .put-u32 .ensures) in
-    let q5 : five ≡ placed (a .at) ((((A ++ B) ++ v) ++ N) ++ k) o
-    = then-placed (a .at) (((A ++ B) ++ v) ++ N) k o four five (a .at + 9 + 4 * a .d + 4) i q4 (omega (arith, lA, lB, lN, l2, l3, l4, lv)) (c .before .before .put-bytes2 .ensures) in
-    let e = record-parts (a .d) (a .snapshot .now) (a .log .now) R f v k h (c .before .before .before .before .before .before .before .before .before .before .before .before .before .before .before .before .before .flag .ensures) (c .before .before .before .before .before .before .before .before .before .before .before .before .cut .ensures .0) (c .before .before .before .cut2 .ensures .0) in
-    (omega arith, q5 ∙ ap (λ (l : List ℕ). placed (a .at) l o) e)
+    let r = a .row in
+    let inside = s .pre .0 .inside in
+    let h : a .at ≤ length o = omega (arith, s .pre .1) in
+    let vector = length-vector (a .d) (a .snapshot .now) (a .log .now) r inside in
+    let caption = length-caption (a .d) (a .snapshot .now) (a .log .now) r inside in
+    let q2 = then-field (a .at) o h 1 (p2 .before .flag .result) (record { long = length-bytes 8 (r .id .0); same = p1 .put-u64 .ensures }) refl (p2 .put-u8 .ensures) in
+    let q3 = then-part (a .at) o h _ q2 vector refl (p3 .copy-shown .ensures) in
+    let q4 = then-field (a .at) o h 4 (r .«caption_length») q3 (omega arith) (p4 .put-u32 .ensures) in
+    let q5 = then-part (a .at) o h _ q4 caption (omega arith) (p5 .copy-shown2 .ensures) in
+    (ap (λ (n : ℕ). a .at + n) (p1 .before .before .record-length .ensures), q5 .same ∙ ap (λ (l : List ℕ). placed (a .at) l o) (simp (append-assoc, p2 .before .flag .ensures, caption)))
 
 pub write-record-spec : {M : Type 1} → statement M
 write-record-spec =
     tie.close
     (tie.spec
+    record-length-requires
+    add-end
     add-vector
     mul-length
     add-length
@@ -143,18 +91,10 @@ write-record-spec =
     add-put-u8
     flag-requires
     put-u8-requires
-    mul-cut
-    cut-requires
-    put-bytes-requires
+    copy-shown-requires
     cast-put-u32
     put-u32-requires
-    add-put-bytes
-    mul-cut-2
-    add-cut
-    add-cut-2
-    cut-requires-2
-    put-bytes-requires-2
-    add-result
-    add-result-2
+    add-copy-shown
+    copy-shown-requires-2
     same-length
     returns)

@@ -103,9 +103,9 @@ impl CachePlan {
         laid
     }
 
-    fn numbers(&self, starts_lent: u64) -> Vec<u64> {
+    fn numbers(&self, starts_lent: u64, fill: u64) -> Vec<u64> {
         let mut numbers = self.config.numbers().to_vec();
-        numbers.extend([u64::from(self.snapshot_crc), self.sequence, self.count, starts_lent]);
+        numbers.extend([u64::from(self.snapshot_crc), self.sequence, self.count, starts_lent, fill]);
         numbers
     }
 }
@@ -116,5 +116,5 @@ pub fn read_cache_request(prng: &mut Prng) -> Vec<u8> {
         if prng.permille(700) { damage::damaged(prng, &mut plan) } else { with_crc(&plan.lay().bytes) };
     let most = plan.count.min(4000);
     let starts_lent = if prng.permille(60) { prng.below(most.min(40) + 1) } else { most + prng.below(3) };
-    request::body(READ_CACHE, &plan.numbers(starts_lent), &[&bytes])
+    request::body(READ_CACHE, &plan.numbers(starts_lent, values::table_fill(prng)), &[&bytes])
 }

@@ -1,8 +1,8 @@
--- `Config::validate` answers `validityOf`: each return follows the tests that led there.
+-- `Config::validate` answers `validate`: each return follows the tests that led there.
 use mathlib.Core.Path.{_≡_, sym, _∙_}
 use borrow.Author.Needs.{needs}
 use borrow.Author.Tests.{not-true, not-false}
-use Rattle.config.specs.Settings.{validityOf}
+use Rattle.config.specs.Settings.{validate}
 use Rattle.config.proofs.Config.validate.Statement.{statement}
 use Rattle.config.proofs.Config.validate.Tie as tie
 
@@ -10,14 +10,14 @@ in-range-requires : tie.Need-in-range-requires
 in-range-requires c κs = search needs
 
 returns : tie.Need-returns
-unfolding validityOf
+unfolding validate
 returns c = simp (sym (c .before .in-range .ensures) ∙ not-true _ (c .if1 .taken))
 
 in-range-requires-2 : tie.Need-in-range-requires-2
 in-range-requires-2 c κs = search needs
 
 returns-2 : tie.Need-returns-2
-unfolding validityOf
+unfolding validate
 returns-2 c =
     let b = c .before .before in
     simp (sym (b .before .in-range .ensures) ∙ not-false _ (b .if1 .left), sym (c .before .in-range2 .ensures) ∙ not-true _ (c .if2 .taken))
@@ -26,14 +26,14 @@ in-range-requires-3 : tie.Need-in-range-requires-3
 in-range-requires-3 c κs = search needs
 
 returns-3 : tie.Need-returns-3
-unfolding validityOf
+unfolding validate
 returns-3 c =
     let a = c .before .before in
     let b = a .before .before in
     simp (sym (b .before .in-range .ensures) ∙ not-false _ (b .if1 .left), sym (a .before .in-range2 .ensures) ∙ not-false _ (a .if2 .left), sym (c .before .in-range3 .ensures) ∙ not-true _ (c .if3 .taken))
 
 returns-4 : tie.Need-returns-4
-unfolding validityOf
+unfolding validate
 returns-4 c =
     let a = c .before .before in
     let b = a .before .before in

@@ -1,4 +1,4 @@
--- `crc_of_words` is safe and ends. The invariant: the index is at most the length, and a word has eight bytes.
+-- `crc_of_words` is safe and ends. The invariant: the index is at most the count, and a word has eight bytes.
 use Prim.Native.Nat.{_≤_, _-_}
 use mathlib.Core.Path.{_≡_}
 use lib.ListN.{length}
@@ -7,10 +7,10 @@ use Rattle.exchange.proofs.atoms.crc_of_words.Statement.{statement}
 use Rattle.exchange.proofs.atoms.crc_of_words.Tie as tie
 
 abbrev Inv-loop : tie.InvT-loop
-Inv-loop w t crc₀ word₀ i₀ crc word i = (i ≤ length w) × (length word ≡ 8)
+Inv-loop w e n t crc₀ bytes₀ i₀ crc bytes i = (i ≤ n) × (length bytes ≡ 8)
 
 abbrev μ-loop : tie.MeasureT-loop
-μ-loop w t crc₀ word₀ i₀ crc word i = length w - i
+μ-loop w e n t crc₀ bytes₀ i₀ crc bytes i = n - i
 
 tables-requires : tie.Need-tables-requires Inv-loop μ-loop
 tables-requires c κs = search needs
@@ -24,11 +24,8 @@ loop-holds c = search needs
 slice-aggregate-put-u64 : tie.Need-slice-aggregate-put-u64 Inv-loop μ-loop
 slice-aggregate-put-u64 c = search needs
 
-mul-put-u64 : tie.Need-mul-put-u64 Inv-loop μ-loop
-mul-put-u64 c = search needs
-
-shared-slice-read-put-u64 : tie.Need-shared-slice-read-put-u64 Inv-loop μ-loop
-shared-slice-read-put-u64 c = search needs
+word-requires : tie.Need-word-requires Inv-loop μ-loop
+word-requires c κs = search needs
 
 put-u64-requires : tie.Need-put-u64-requires Inv-loop μ-loop
 put-u64-requires c κs = search needs
@@ -64,8 +61,7 @@ crc-of-words-spec =
     start-requires
     loop-holds
     slice-aggregate-put-u64
-    mul-put-u64
-    shared-slice-read-put-u64
+    word-requires
     put-u64-requires
     slice-aggregate-update
     update-requires

@@ -7,22 +7,16 @@ use Rattle.exchange.proofs.atoms.list.Statement.{statement}
 use Rattle.exchange.proofs.atoms.list.Tie as tie
 
 abbrev Inv-loop : tie.InvT-loop
-Inv-loop answer₀ w n at₀ i₀ answer at i = (i ≤ n) × (length answer ≡ length answer₀)
+Inv-loop answer₀ w e n at₀ i₀ answer at i = (i ≤ n) × (length answer ≡ length answer₀)
 
 abbrev μ-loop : tie.MeasureT-loop
-μ-loop answer₀ w n at₀ i₀ answer at i = n - i
-
-without-zeros-requires : tie.Need-without-zeros-requires Inv-loop μ-loop
-without-zeros-requires c κs = search needs
+μ-loop answer₀ w e n at₀ i₀ answer at i = n - i
 
 loop-holds : tie.Need-loop-holds Inv-loop μ-loop
 loop-holds c = search needs
 
-mul-listed : tie.Need-mul-listed Inv-loop μ-loop
-mul-listed c = search needs
-
-shared-slice-read-listed : tie.Need-shared-slice-read-listed Inv-loop μ-loop
-shared-slice-read-listed c = search needs
+word-requires : tie.Need-word-requires Inv-loop μ-loop
+word-requires c κs = search needs
 
 listed-requires : tie.Need-listed-requires Inv-loop μ-loop
 listed-requires c κs = search needs
@@ -48,10 +42,8 @@ list-spec =
     (tie.spec
     Inv-loop
     μ-loop
-    without-zeros-requires
     loop-holds
-    mul-listed
-    shared-slice-read-listed
+    word-requires
     listed-requires
     add-i
     loop-less

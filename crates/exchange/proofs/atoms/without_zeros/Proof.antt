@@ -1,33 +1,28 @@
--- `without_zeros` gives a count of the words. The invariant: what is left is at most their count.
-use Prim.Native.Nat.{_≤_}
-use lib.ListN.{length}
+-- `without_zeros` is safe and ends. The measure is what is left; nothing has to hold from turn to turn.
 use borrow.Author.Needs.{needs}
 use Rattle.exchange.proofs.atoms.without_zeros.Statement.{statement}
 use Rattle.exchange.proofs.atoms.without_zeros.Tie as tie
 
 abbrev Inv-loop : tie.InvT-loop
-Inv-loop w n₀ n = n ≤ length w
+Inv-loop w e n left₀ left = Unit {0}
 
 abbrev μ-loop : tie.MeasureT-loop
-μ-loop w n₀ n = n
+μ-loop w e n left₀ left = left
 
 loop-holds : tie.Need-loop-holds Inv-loop μ-loop
 loop-holds c = search needs
 
-sub-if1 : tie.Need-sub-if1 Inv-loop μ-loop
-sub-if1 c = search needs
+sub-word : tie.Need-sub-word Inv-loop μ-loop
+sub-word c = search needs
 
-mul-if1 : tie.Need-mul-if1 Inv-loop μ-loop
-mul-if1 c = search needs
-
-shared-slice-read-if1 : tie.Need-shared-slice-read-if1 Inv-loop μ-loop
-shared-slice-read-if1 c = search needs
+word-requires : tie.Need-word-requires Inv-loop μ-loop
+word-requires c κs = search needs
 
 returns : tie.Need-returns Inv-loop μ-loop
 returns c = search needs
 
-sub-n : tie.Need-sub-n Inv-loop μ-loop
-sub-n c = search needs
+sub-left : tie.Need-sub-left Inv-loop μ-loop
+sub-left c = search needs
 
 loop-less : tie.Need-loop-less Inv-loop μ-loop
 loop-less c = search needs
@@ -45,11 +40,10 @@ without-zeros-spec =
     Inv-loop
     μ-loop
     loop-holds
-    sub-if1
-    mul-if1
-    shared-slice-read-if1
+    sub-word
+    word-requires
     returns
-    sub-n
+    sub-left
     loop-less
     loop-again
     returns-2)

@@ -7,25 +7,19 @@ use Rattle.exchange.proofs.lend.load64.Statement.{statement}
 use Rattle.exchange.proofs.lend.load64.Tie as tie
 
 abbrev Inv-loop : tie.InvT-loop
-Inv-loop words₀ part i₀ words i = (i ≤ length words₀) × (length words ≡ length words₀)
+Inv-loop words₀ part fill i₀ words i = (i ≤ length words₀) × (length words ≡ length words₀)
 
 abbrev μ-loop : tie.MeasureT-loop
-μ-loop words₀ part i₀ words i = length words₀ - i
+μ-loop words₀ part fill i₀ words i = length words₀ - i
 
 loop-holds : tie.Need-loop-holds Inv-loop μ-loop
 loop-holds c = search needs
 
-same-length : tie.Need-same-length Inv-loop μ-loop
-same-length c = search needs
+mul-word64 : tie.Need-mul-word64 Inv-loop μ-loop
+mul-word64 c = search needs
 
-returns : tie.Need-returns Inv-loop μ-loop
-returns c = search needs
-
-mul-get-u64 : tie.Need-mul-get-u64 Inv-loop μ-loop
-mul-get-u64 c = search needs
-
-get-u64-requires : tie.Need-get-u64-requires Inv-loop μ-loop
-get-u64-requires c κs = search needs
+word64-requires : tie.Need-word64-requires Inv-loop μ-loop
+word64-requires c κs = search needs
 
 mul-words : tie.Need-mul-words Inv-loop μ-loop
 mul-words c = search needs
@@ -42,11 +36,11 @@ loop-less c = search needs
 loop-again : tie.Need-loop-again Inv-loop μ-loop
 loop-again c = search needs
 
-same-length-2 : tie.Need-same-length-2 Inv-loop μ-loop
-same-length-2 c = search needs
+same-length : tie.Need-same-length Inv-loop μ-loop
+same-length c = search needs
 
-returns-2 : tie.Need-returns-2 Inv-loop μ-loop
-returns-2 c = search needs
+returns : tie.Need-returns Inv-loop μ-loop
+returns c = search needs
 
 pub load64-spec : {M : Type 1} → statement M
 load64-spec =
@@ -55,14 +49,12 @@ load64-spec =
     Inv-loop
     μ-loop
     loop-holds
-    same-length
-    returns
-    mul-get-u64
-    get-u64-requires
+    mul-word64
+    word64-requires
     mul-words
     slice-write-words
     add-i
     loop-less
     loop-again
-    same-length-2
-    returns-2)
+    same-length
+    returns)

@@ -1,0 +1,4 @@
+pub mod Listing
+pub mod ZeroTail
+pub mod LiveNodes
+pub mod Finishing

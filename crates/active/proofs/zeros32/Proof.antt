@@ -1,0 +1,23 @@
+-- `zeros32` clears the rest of the entries.
+use borrow.Author.Needs.{needs}
+use denote.Ref.{now}
+use Rattle.active.proofs.ZeroTail.{zero-tail}
+use Rattle.active.proofs.zeros32.Statement.{statement}
+use Rattle.active.proofs.zeros32.Tie as tie
+
+returns : tie.Need-returns
+returns c =
+    let a = c .before .before .before .before .before .args in
+    zero-tail (now (a .entries)) (c .before .before .fill-zero32 .last .0) (a .at) (c .before .before .before .before .before .pre) (c .before .before .fill-zero32 .ensures)
+
+pub zeros32-spec : {M : Type 1} → statement M
+zeros32-spec =
+    tie.close
+    (tie.spec
+    (λ c. search needs)
+    (λ c. search needs)
+    (λ c. search needs)
+    (λ c. search needs)
+    (λ c κs. search needs)
+    (λ c. search needs)
+    returns)

@@ -1,0 +1,13 @@
+pub mod Several
+pub mod Marking
+pub mod Asked
+pub mod Decode
+pub mod Listing
+pub mod Walk
+pub mod Shows
+pub mod Head
+pub mod ZeroTail
+pub mod Lost
+pub mod Starts
+pub mod Tested
+pub mod Body

@@ -1,0 +1,77 @@
+-- `check_level` answers `readLevel`: 4, 47, then the list.
+use Prim.Native.Nat.{ℕ, _+_, _≤_, _<_}
+use native.Mathlib.Omega.{arith}
+use mathlib.Core.Path.{sym, ap, subst, _∙_}
+use borrow.Author.Needs.{needs}
+use denote.Ref.{now}
+use Rattle.fields.specs.Fields.{num}
+use Rattle.graph.specs.Cache.{several, readNeighbour}
+use Rattle.graph.specs.Graph.{degreeLimit}
+use Rattle.graph.specs.Told.{nextTold}
+use Rattle.graph.proofs.Asked.{level-past, level-high, level-good}
+use Rattle.graph.proofs.Marking.{under-more}
+use Rattle.graph.proofs.check_level.Statement.{statement}
+use Rattle.graph.proofs.check_level.Tie as tie
+
+sub-if1 : tie.Need-sub-if1
+sub-if1 c = omega (arith, c .before .before .pre .1 .0)
+
+returns : tie.Need-returns
+returns c =
+    let a = c .before .before .before .args in
+    let s = now (a .s) in
+    let pre = c .before .before .before .pre in
+    let t = c .if1 .taken in
+    (sym (level-past (a .m) (a .count) s (a .end) (a .node) (a .level) (a .at) (omega (arith, pre .1 .0))), under-more _ (a .at + 1) (a .at + 5) (omega arith) (pre .1 .1 .1 .1))
+
+get-u32-requires : tie.Need-get-u32-requires
+get-u32-requires c κs = omega (arith, c .before .before .before .pre .0, c .before .before .before .pre .1 .0, c .if1 .left)
+
+cast-degree : tie.Need-cast-degree
+cast-degree c = search needs
+
+degree-limit-requires : tie.Need-degree-limit-requires
+degree-limit-requires c κs = c .before .before .before .before .pre .1 .1 .0
+
+returns-2 : tie.Need-returns-2
+returns-2 c =
+    let a = c .before .before .before .before .before .before .args in
+    let s = now (a .s) in
+    let pre = c .before .before .before .before .before .before .pre in
+    (sym (level-high (a .m) (a .count) s (a .end) (a .node) (a .level) (a .at) (omega (arith, pre .1 .0, c .before .before .before .if1 .left)) (subst (λ (n : ℕ). n < num s (a .at) 4) (c .before .degree-limit .ensures) (subst (λ (n : ℕ). c .before .degree-limit .result < n) (c .before .before .get-u32 .ensures) (c .if2 .taken)))), under-more _ (a .at + 1) (a .at + 5) (omega arith) (pre .1 .1 .1 .1))
+
+add-check-neighbours : tie.Need-add-check-neighbours
+add-check-neighbours c = omega (arith, c .before .before .before .before .before .before .pre .0, c .before .before .before .before .before .before .pre .1 .0, c .before .before .before .if1 .left)
+
+check-neighbours-requires : tie.Need-check-neighbours-requires
+check-neighbours-requires c κs =
+    let a = c .before .before .before .before .before .before .before .args in
+    let s = now (a .s) in
+    let pre = c .before .before .before .before .before .before .before .pre in
+    (pre .0, (omega (arith, pre .1 .0, c .before .before .before .before .if1 .left), (pre .1 .1 .1 .0, under-more _ (a .at + 1) (a .at + 4) (omega arith) (pre .1 .1 .1 .1))))
+
+same-length : tie.Need-same-length
+same-length c = c .before .before .check-neighbours .kept .1 .1 .1 .1 .1 .1 .0
+
+returns-3 : tie.Need-returns-3
+returns-3 c =
+    let a = c .before .before .before .before .before .before .before .before .before .before .args in
+    let s = now (a .s) in
+    let pre = c .before .before .before .before .before .before .before .before .before .before .pre in
+    let few = subst (λ (n : ℕ). n ≤ degreeLimit (a .m) (a .level)) (c .before .before .before .before .before .before .get-u32 .ensures) (subst (λ (n : ℕ). c .before .before .before .before .before .before .get-u32 .result ≤ n) (c .before .before .before .before .before .degree-limit .ensures) (c .before .before .before .before .if2 .left)) in
+    (c .before .before .check-neighbours .ensures .0 ∙ ap (λ (n : ℕ). nextTold (several (readNeighbour (a .count) s (a .end) (a .node) (a .at + 4)) n 0 (a .at + 4))) (c .before .before .before .before .before .before .get-u32 .ensures) ∙ sym (level-good (a .m) (a .count) s (a .end) (a .node) (a .level) (a .at) (omega (arith, pre .1 .0, c .before .before .before .before .before .before .before .if1 .left)) few), under-more _ (a .at + 4 + 1) (a .at + 5) (omega arith) (c .before .before .check-neighbours .ensures .1))
+
+pub check-level-spec : {M : Type 1} → statement M
+check-level-spec =
+    tie.close
+    (tie.spec
+    sub-if1
+    returns
+    get-u32-requires
+    cast-degree
+    degree-limit-requires
+    returns-2
+    add-check-neighbours
+    check-neighbours-requires
+    same-length
+    returns-3)

@@ -1,0 +1,102 @@
+-- `check_levels` answers the levels in order. The invariant: the run from here is the whole run, and every mark is below what comes next.
+use Prim.Native.Nat.{ℕ, _+_, _-_}
+use native.Mathlib.Omega.{arith}
+use mathlib.Core.Path.{_≡_, refl, sym, subst, _∙_}
+use borrow.Author.Needs.{needs}
+use denote.Ref.{now}
+use lib.ListN.{length}
+use Rattle.graph.specs.Cache.{readLevel}
+use Rattle.graph.specs.Marks.{Under}
+use Rattle.graph.specs.Neighbours.{given}
+use Rattle.graph.proofs.Decode.{level-within}
+use Rattle.graph.proofs.Listing.{Running, running-none, running-more, running-stop, running-done}
+use Rattle.graph.proofs.Marking.{under-more}
+use Rattle.graph.proofs.Several.{found}
+use Rattle.graph.proofs.check_levels.Statement.{statement}
+use Rattle.graph.proofs.check_levels.Tie as tie
+
+abbrev Inv-loop : tie.InvT-loop
+Inv-loop s end m count node levels first marks₀ at₀ level₀ marks at level = Running (readLevel m count s end node) end levels first (length marks₀) marks at level
+
+abbrev μ-loop : tie.MeasureT-loop
+μ-loop s end m count node levels first marks₀ at₀ level₀ marks at level = levels - level
+
+loop-holds : tie.Need-loop-holds Inv-loop μ-loop
+loop-holds c =
+    let a = c .before .before .args in
+    let s = now (a .s) in
+    let pre = c .before .before .pre in
+    running-none (readLevel (a .m) (a .count) s (a .end) (a .node)) (a .end) (a .levels) (a .first) (length (now (a .marks))) (now (a .marks)) (pre .1 .0) refl (pre .1 .1 .1 .1)
+
+check-level-requires : tie.Need-check-level-requires Inv-loop μ-loop
+check-level-requires c κs =
+    let a = c .before .before .before .before .before .args in
+    let s = now (a .s) in
+    let pre = c .before .before .before .before .before .pre in
+    let l = (c .before .before .loop) in
+    let same = l .inv .same in
+    (pre .0, (l .inv .within, (pre .1 .1 .0, (omega (arith, pre .1 .1 .1 .0), l .inv .under))))
+
+enum-known-next : tie.Need-enum-known-next Inv-loop μ-loop
+enum-known-next c = search needs
+
+enum-known-why : tie.Need-enum-known-why Inv-loop μ-loop
+enum-known-why c = search needs
+
+same-length : tie.Need-same-length Inv-loop μ-loop
+same-length c = c .before .before .before .before .before .check-level .kept .1 .1 .1 .1 .1 .1 .1 .0 ∙ c .before .before .before .before .before .before .before .before .loop .inv .same
+
+returns : tie.Need-returns Inv-loop μ-loop
+returns c =
+    let a = c .before .before .before .before .before .before .before .before .before .before .before .args in
+    let s = now (a .s) in
+    let pre = c .before .before .before .before .before .before .before .before .before .before .before .pre in
+    let l = (c .before .before .before .before .before .before .before .before .loop) in
+    (running-stop (readLevel (a .m) (a .count) s (a .end) (a .node)) (a .end) (a .levels) (a .first) (length (now (a .marks))) (l .marks) (l .at) (l .level) (c .before .why .given .0 .0) (l .inv) (c .before .before .before .before .before .before .before .loop-test .taken) (sym (c .before .before .before .before .before .check-level .ensures .0) ∙ c .before .why .given .1), (λ n e. absurd (let z : _≡_ {A = ℕ} 0 1 = cc in omega arith)))
+
+add-level : tie.Need-add-level Inv-loop μ-loop
+add-level c = let t = c .before .before .before .before .before .before .before .loop-test .taken in omega arith
+
+loop-less : tie.Need-loop-less Inv-loop μ-loop
+loop-less c = let t = c .before .before .before .before .before .before .before .loop-test .taken in omega arith
+
+loop-again : tie.Need-loop-again Inv-loop μ-loop
+loop-again c =
+    let a = c .before .before .before .before .before .before .before .before .before .before .before .args in
+    let s = now (a .s) in
+    let pre = c .before .before .before .before .before .before .before .before .before .before .before .pre in
+    let l = (c .before .before .before .before .before .before .before .before .loop) in
+    let told = sym (c .before .before .before .before .before .check-level .ensures .0) ∙ c .before .next .given .1 in
+    let f = found (readLevel (a .m) (a .count) s (a .end) (a .node) (l .level) (l .at)) (c .before .next .given .0 .0) told in
+    let w = level-within (a .m) (a .count) s (a .end) (a .node) (l .level) (l .at) (f .read) (l .inv .within) (f .is) in
+    let n = f .next-is in
+    running-more (readLevel (a .m) (a .count) s (a .end) (a .node)) (a .end) (a .levels) (a .first) (length (now (a .marks))) (l .marks) _ (l .at) (l .level) (c .before .next .given .0 .0) (l .inv) (c .before .before .before .before .before .before .before .loop-test .taken) told (omega arith) (c .before .before .before .before .before .check-level .kept .1 .1 .1 .1 .1 .1 .1 .0) (under-more _ (l .at + 5) (c .before .next .given .0 .0 + 1) (omega arith) (c .before .before .before .before .before .check-level .ensures .1))
+
+same-length-2 : tie.Need-same-length-2 Inv-loop μ-loop
+same-length-2 c = c .before .loop .inv .same
+
+returns-2 : tie.Need-returns-2 Inv-loop μ-loop
+returns-2 c =
+    let a = c .before .before .before .before .args in
+    let s = now (a .s) in
+    let pre = c .before .before .before .before .pre in
+    let l = (c .before .loop) in
+    (running-done (readLevel (a .m) (a .count) s (a .end) (a .node)) (a .end) (a .levels) (a .first) (length (now (a .marks))) (l .marks) (l .at) (l .level) (l .inv) (c .loop-test .left), λ n e. let q : l .at ≡ n = cc in subst (λ (k : ℕ). Under (l .marks) (k + 1)) q (l .inv .under))
+
+pub check-levels-spec : {M : Type 1} → statement M
+check-levels-spec =
+    tie.close
+    (tie.spec
+    Inv-loop
+    μ-loop
+    loop-holds
+    check-level-requires
+    enum-known-next
+    enum-known-why
+    same-length
+    returns
+    add-level
+    loop-less
+    loop-again
+    same-length-2
+    returns-2)

@@ -1,0 +1,151 @@
+-- `check_neighbours` answers the list. The invariant: those passed bear the list's mark, and no other node does.
+use Prim.Native.Nat.{_-_}
+use native.Mathlib.Omega.{arith}
+use mathlib.Core.Path.{refl}
+use borrow.Author.Needs.{needs}
+use denote.Ref.{now}
+use lib.ListN.{length}
+use Rattle.graph.proofs.Listing.{Listing, listing-none, listing-past, listing-high, listing-self, listing-again, listing-more, listing-done}
+use Rattle.graph.proofs.check_neighbours.Statement.{statement}
+use Rattle.graph.proofs.check_neighbours.Tie as tie
+
+abbrev Inv-loop : tie.InvT-loop
+Inv-loop s end count node degree first marks₀ mark at₀ i₀ marks at i = Listing s end count node degree first (length marks₀) marks at i
+
+abbrev μ-loop : tie.MeasureT-loop
+μ-loop s end count node degree first marks₀ mark at₀ i₀ marks at i = degree - i
+
+loop-holds : tie.Need-loop-holds Inv-loop μ-loop
+loop-holds c =
+    let a = c .before .before .args in
+    let pre = c .before .before .pre in
+    listing-none (now (a .s)) (a .end) (a .count) (a .node) (a .degree) (a .first) (length (now (a .marks))) (now (a .marks)) (pre .1 .0) refl (pre .1 .1 .1)
+
+sub-if1 : tie.Need-sub-if1 Inv-loop μ-loop
+sub-if1 c = let w = c .before .loop .inv .within in omega arith
+
+same-length : tie.Need-same-length Inv-loop μ-loop
+same-length c = c .before .before .loop .inv .same
+
+returns : tie.Need-returns Inv-loop μ-loop
+returns c =
+    let a = c .before .before .before .before .before .args in
+    let l = (c .before .before .loop) in
+    let pre = c .before .before .before .before .before .pre in
+    let w = l .inv .within in
+    let t = c .if1 .taken in
+    (listing-past (now (a .s)) (a .end) (a .count) (a .node) (a .degree) (a .first) (length (now (a .marks))) (l .marks) (l .at) (l .i) (l .inv) (c .before .loop-test .taken) (omega arith), l .inv .under)
+
+get-u32-requires : tie.Need-get-u32-requires Inv-loop μ-loop
+get-u32-requires c κs = let w = c .before .before .loop .inv .within in let t = c .if1 .left in omega (arith, c .before .before .before .before .before .pre .0)
+
+cast-x : tie.Need-cast-x Inv-loop μ-loop
+cast-x c = search needs
+
+same-length-2 : tie.Need-same-length-2 Inv-loop μ-loop
+same-length-2 c = c .before .before .before .before .loop .inv .same
+
+returns-2 : tie.Need-returns-2 Inv-loop μ-loop
+returns-2 c =
+    let a = c .before .before .before .before .before .before .before .args in
+    let l = (c .before .before .before .before .loop) in
+    let pre = c .before .before .before .before .before .before .before .pre in
+    let w = l .inv .within in
+    let t = c .before .before .if1 .left in
+    (listing-high (now (a .s)) (a .end) (a .count) (a .node) (a .degree) (a .first) (length (now (a .marks))) (l .marks) (l .at) (l .i) (l .inv) (c .before .before .before .loop-test .taken) (c .before .get-u32 .result) (c .before .get-u32 .ensures) (omega arith) (c .if2 .taken), l .inv .under)
+
+same-length-3 : tie.Need-same-length-3 Inv-loop μ-loop
+same-length-3 c = c .before .before .before .before .before .loop .inv .same
+
+returns-3 : tie.Need-returns-3 Inv-loop μ-loop
+returns-3 c =
+    let a = c .before .before .before .before .before .before .before .before .args in
+    let l = (c .before .before .before .before .before .loop) in
+    let pre = c .before .before .before .before .before .before .before .before .pre in
+    let w = l .inv .within in
+    let t = c .before .before .before .if1 .left in
+    (listing-self (now (a .s)) (a .end) (a .count) (a .node) (a .degree) (a .first) (length (now (a .marks))) (l .marks) (l .at) (l .i) (l .inv) (c .before .before .before .before .loop-test .taken) (c .before .before .get-u32 .result) (c .before .before .get-u32 .ensures) (omega arith) (c .before .if2 .left) (c .if3 .taken), l .inv .under)
+
+mul-if4 : tie.Need-mul-if4 Inv-loop μ-loop
+mul-if4 c = search needs
+
+slice-read-if4 : tie.Need-slice-read-if4 Inv-loop μ-loop
+slice-read-if4 c =
+    let same = c .before .before .before .before .before .before .loop .inv .same in
+    omega (arith, c .before .before .if2 .left, c .before .before .before .before .before .before .before .before .before .pre .1 .1 .0)
+
+same-length-4 : tie.Need-same-length-4 Inv-loop μ-loop
+same-length-4 c = c .before .before .before .before .before .before .before .loop .inv .same
+
+returns-4 : tie.Need-returns-4 Inv-loop μ-loop
+returns-4 c =
+    let a = c .before .before .before .before .before .before .before .before .before .before .args in
+    let l = (c .before .before .before .before .before .before .before .loop) in
+    let pre = c .before .before .before .before .before .before .before .before .before .before .pre in
+    let w = l .inv .within in
+    let t = c .before .before .before .before .before .if1 .left in
+    (listing-again (now (a .s)) (a .end) (a .count) (a .node) (a .degree) (a .first) (length (now (a .marks))) (l .marks) (l .at) (l .i) (l .inv) (c .before .before .before .before .before .before .loop-test .taken) (c .before .before .before .before .get-u32 .result) (c .before .before .before .before .get-u32 .ensures) (omega arith) (c .before .before .before .if2 .left) (c .before .before .if3 .left) (c .if4 .taken), l .inv .under)
+
+mul-marks : tie.Need-mul-marks Inv-loop μ-loop
+mul-marks c = search needs
+
+slice-write-marks : tie.Need-slice-write-marks Inv-loop μ-loop
+slice-write-marks c =
+    let same = c .before .before .before .before .before .before .before .loop .inv .same in
+    omega (arith, c .before .before .before .if2 .left, c .before .before .before .before .before .before .before .before .before .before .pre .1 .1 .0)
+
+add-at : tie.Need-add-at Inv-loop μ-loop
+add-at c = let w = c .before .before .before .before .before .before .before .loop .inv .within in let t = c .before .before .before .before .before .if1 .left in omega arith
+
+add-i : tie.Need-add-i Inv-loop μ-loop
+add-i c = search needs
+
+loop-less : tie.Need-loop-less Inv-loop μ-loop
+loop-less c = search needs
+
+loop-again : tie.Need-loop-again Inv-loop μ-loop
+loop-again c =
+    let a = c .before .before .before .before .before .before .before .before .before .before .args in
+    let l = (c .before .before .before .before .before .before .before .loop) in
+    let pre = c .before .before .before .before .before .before .before .before .before .before .pre in
+    let w = l .inv .within in
+    let t = c .before .before .before .before .before .if1 .left in
+    listing-more (now (a .s)) (a .end) (a .count) (a .node) (a .degree) (a .first) (length (now (a .marks))) (l .marks) (l .at) (l .i) (l .inv) (c .before .before .before .before .before .before .loop-test .taken) (c .before .before .before .before .get-u32 .result) (c .before .before .before .before .get-u32 .ensures) (omega arith) (pre .1 .1 .0) (c .before .before .before .if2 .left) (c .before .before .if3 .left) (c .if4 .left)
+
+same-length-5 : tie.Need-same-length-5 Inv-loop μ-loop
+same-length-5 c = c .before .loop .inv .same
+
+returns-5 : tie.Need-returns-5 Inv-loop μ-loop
+returns-5 c =
+    let a = c .before .before .before .before .args in
+    let l = (c .before .loop) in
+    (listing-done (now (a .s)) (a .end) (a .count) (a .node) (a .degree) (a .first) (length (now (a .marks))) (l .marks) (l .at) (l .i) (l .inv) (c .loop-test .left), l .inv .under)
+
+pub check-neighbours-spec : {M : Type 1} → statement M
+check-neighbours-spec =
+    tie.close
+    (tie.spec
+    Inv-loop
+    μ-loop
+    loop-holds
+    sub-if1
+    same-length
+    returns
+    get-u32-requires
+    cast-x
+    same-length-2
+    returns-2
+    same-length-3
+    returns-3
+    mul-if4
+    slice-read-if4
+    same-length-4
+    returns-4
+    mul-marks
+    slice-write-marks
+    add-at
+    add-i
+    loop-less
+    loop-again
+    same-length-5
+    returns-5)

@@ -1,0 +1,2 @@
+pub mod OperationLaws
+pub mod FrameLaws

@@ -1,0 +1,13 @@
+pub mod OneAnswers
+pub mod LeavesKept
+pub mod FieldsPast
+pub mod StoreKept
+pub mod PlayoutKept
+pub mod HelpersKept
+pub mod Outputs
+pub mod FilesWritten
+pub mod FilesRead
+pub mod DeletesLeft
+pub mod FramesEncoded
+pub mod SumsKept
+pub mod Proved

@@ -1,0 +1,45 @@
+-- What `specs/Store.antt` says of the store's calls.
+use Rattle.promises.specs.Store.{SnapshotCalls, ViewsCalls, WriterCalls, EncoderCalls}
+use Rattle.promises.proofs.OneAnswers.{one-answer}
+
+pub snapshot-calls : SnapshotCalls
+snapshot-calls =
+    record {
+      read-header-contract = λ κs bytes r p. record { result-is = p };
+      read-header-one-answer = λ bytes r s m n. one-answer (m .result-is) (n .result-is);
+      read-snapshot-contract = λ κs bytes rows active r rows' active' p. record { result-is = p .0; rows-are = p .1 .0; active-is = p .1 .1 };
+      read-snapshot-one-answer = λ bytes rows active r s x y z w m n. (one-answer (m .result-is) (n .result-is), one-answer (m .rows-are) (n .rows-are), one-answer (m .active-is) (n .active-is));
+    }
+
+pub views-calls : ViewsCalls
+views-calls =
+    record {
+      lookup-contract = λ κs rows count id r p. record { result-is = p };
+      lookup-one-answer = λ rows count id r s m n. one-answer (m .result-is) (n .result-is);
+      caption-number-contract = λ κs snapshot log rows count node d r p. record { result-is = p };
+      caption-number-one-answer = λ snapshot log rows count node d r s m n. one-answer (m .result-is) (n .result-is);
+      vector-number-contract = λ κs snapshot log rows count node d r p. record { result-is = p };
+      vector-number-one-answer = λ snapshot log rows count node d r s m n. one-answer (m .result-is) (n .result-is);
+      caption-view-contract = λ κs snapshot log rows count node d r p. record { bytes-are = p .0; start-is = p .1 };
+      caption-view-one-answer = λ snapshot log rows count node d r s m n. (one-answer (m .start-is) (n .start-is), one-answer (m .bytes-are) (n .bytes-are));
+      vector-view-contract = λ κs snapshot log rows count node d r p. record { bytes-are = p .0; start-is = p .1 };
+      vector-view-one-answer = λ snapshot log rows count node d r s m n. (one-answer (m .start-is) (n .start-is), one-answer (m .bytes-are) (n .bytes-are));
+    }
+
+pub writer-calls : WriterCalls
+writer-calls =
+    record {
+      write-contract = λ κs config sequence rows count snapshot log out r after p. record { result-is = p .0; output-is = p .1 };
+      write-one-answer = λ config sequence rows count snapshot log out r s x y m n. (one-answer (m .result-is) (n .result-is), one-answer (m .output-is) (n .output-is));
+      write-compacted-contract = λ κs config sequence rows count snapshot log out r after p. record { result-is = p .0; output-is = p .1 };
+      write-compacted-one-answer = λ config sequence rows count snapshot log out r s x y m n. (one-answer (m .result-is) (n .result-is), one-answer (m .output-is) (n .output-is));
+    }
+
+pub encoder-calls : EncoderCalls
+encoder-calls =
+    record {
+      encode-frame-contract = λ κs config sequence operations coordinates captions out r after p. record { result-is = p .0; output-is = p .1 };
+      encode-frame-one-answer = λ config sequence operations coordinates captions out r s x y m n. (one-answer (m .result-is) (n .result-is), one-answer (m .output-is) (n .output-is));
+      encode-batch-contract = λ κs config sequence operations coordinates captions out r after p. record { result-is = p .0; output-is = p .1 };
+      encode-batch-one-answer = λ config sequence operations coordinates captions out r s x y m n. (one-answer (m .result-is) (n .result-is), one-answer (m .output-is) (n .output-is));
+    }

@@ -1,0 +1,51 @@
+-- All that the contracts of the code amount to: `proofs/Proved.antt` has the proof of it.
+use Rattle.promises.specs.Leaves.{RefusalCalls, Crc32Calls, Utf8Calls, ConfigCalls, LayoutCalls, FieldsCalls, CoordinatesCalls, RowsCalls, RngCalls}
+use Rattle.promises.specs.PastTheEnd.{FieldNumbers}
+use Rattle.promises.specs.Store.{SnapshotCalls, ViewsCalls, WriterCalls, EncoderCalls}
+use Rattle.promises.specs.Playout.{PlayoutCalls}
+use Rattle.promises.specs.Helpers.{Crc32Helpers, LayoutHelpers, FieldsHelpers, CoordinatesHelpers, RowsHelpers, SourcesHelpers, SortingHelpers, ItemsHelpers, ActiveHelpers, FramesHelpers, LogHelpers, LinksHelpers}
+use Rattle.promises.specs.Output.{Output}
+use Rattle.promises.specs.WrittenFile.{WrittenFile}
+use Rattle.promises.specs.ReadAndWritten.{ReadAndWritten}
+use Rattle.promises.specs.DeleteFrame.{DeleteFrame}
+use Rattle.promises.specs.EncodedFrame.{EncodedFrame}
+use Rattle.promises.specs.SumsAtTheEdges.{SumsAtTheEdges}
+
+pub record Promises : Type 0 where
+  -- the calls that are offered to users, one by one
+  pub refusal-calls : RefusalCalls
+  pub crc32-calls : Crc32Calls
+  pub utf8-calls : Utf8Calls
+  pub config-calls : ConfigCalls
+  pub layout-calls : LayoutCalls
+  pub fields-calls : FieldsCalls
+  pub coordinates-calls : CoordinatesCalls
+  pub rows-calls : RowsCalls
+  pub rng-calls : RngCalls
+  pub snapshot-calls : SnapshotCalls
+  pub views-calls : ViewsCalls
+  pub writer-calls : WriterCalls
+  pub encoder-calls : EncoderCalls
+  pub playout-calls : PlayoutCalls
+  pub field-numbers : FieldNumbers
+  -- the calls between our crates
+  pub crc32-helpers : Crc32Helpers
+  pub layout-helpers : LayoutHelpers
+  pub fields-helpers : FieldsHelpers
+  pub coordinates-helpers : CoordinatesHelpers
+  pub rows-helpers : RowsHelpers
+  pub sources-helpers : SourcesHelpers
+  pub sorting-helpers : SortingHelpers
+  pub items-helpers : ItemsHelpers
+  pub active-helpers : ActiveHelpers
+  pub frames-helpers : FramesHelpers
+  pub log-helpers : LogHelpers
+  pub links-helpers : LinksHelpers
+  -- calls one after another
+  pub output : Output
+  pub written-file : WrittenFile
+  pub read-and-written : ReadAndWritten
+  pub delete-frame : DeleteFrame
+  pub encoded-frame : EncodedFrame
+  -- worked by hand in document 01
+  pub sums-at-the-edges : SumsAtTheEdges
