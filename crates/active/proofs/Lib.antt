@@ -1,4 +1,3 @@
 pub mod Listing
-pub mod ZeroTail
 pub mod LiveNodes
 pub mod Finishing

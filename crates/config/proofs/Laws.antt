@@ -1,6 +1,6 @@
 -- Laws of settings, for whoever goes on with valid ones: `Bounded c` says document 01's bounds, and a config is valid exactly under them. A metric and its number determine each other.
 use Prim.Native.Nat.{ℕ, _≤_, _<_}
-use mathlib.Core.Path.{_≡_, refl, sym, ap, _∙_}
+use mathlib.Core.Path.{_≡_, refl, ap, _∙_}
 use mathlib.Core.Bool.{Bool, true, false, not, _&&_, cond}
 use lib.Dec.{leb, eqb, lit<}
 use native.Mathlib.Omega.{arith}
@@ -12,7 +12,7 @@ use Rattle.config.specs.declared.Metric.{Metric}
 use Rattle.config.specs.declared.Metric.the-variants.{SquaredL2, Cosine, InnerProduct}
 use Rattle.refusal.specs.Refusal.{answer, refused}
 use Rattle.refusal.specs.declared.Refusal.the-variants.{WrongMetric, WrongDimensions, WrongM, WrongEf}
-use Rattle.refusal.proofs.Results.{went, not-refused, refused-no-answer, answer-injective}
+use Rattle.refusal.proofs.Results.{went, not-refused}
 
 pub in-range-of : (x low high : ℕ) → low ≤ x → x ≤ high → inRange x low high ≡ true
 unfolding inRange

@@ -49,7 +49,7 @@ first-byte row c b bs h =
     (sym (turns-add 8 (length bs) row x) ∙ ap (λ (n : ℕ). turns 8 n x) (add-comm (length bs) row))
 
 -- four bytes: the register has no more than four
-pub four-bytes : (row c b₀ b₁ b₂ b₃ : ℕ) → c < 4294967296 → b₀ < 256 → b₁ < 256 → b₂ < 256 → b₃ < 256
+four-bytes : (row c b₀ b₁ b₂ b₃ : ℕ) → c < 4294967296 → b₀ < 256 → b₁ < 256 → b₂ < 256 → b₃ < 256
     → bitXor (turns 8 (suc (row + 3)) (bitXor c b₀ % 256))
     (bitXor (turns 8 (suc (row + 2)) (bitXor (c / 256) b₁ % 256))
     (bitXor (turns 8 (suc (row + 1)) (bitXor (c / 65536) b₂ % 256))
@@ -76,7 +76,7 @@ four-bytes row c b₀ b₁ b₂ b₃ hc h₀ h₁ h₂ h₃ =
     ∙ xor-zero-r (turns 8 (suc row) (bitXor (c / 16777216) b₃ % 256))))))
 
 -- the next bytes of a list
-pub take-next : (n i j : ℕ) (s : List ℕ) → i < length s → j ≡ i + 1
+take-next : (n i j : ℕ) (s : List ℕ) → i < length s → j ≡ i + 1
     → take (suc n) (drop i s) ≡ getD s i 0 ∷ take n (drop j s)
 take-next n i j s h e =
     ap (take (suc n)) (drop-cons s i 0 h ∙ ap (λ (m : ℕ). getD s i 0 ∷ drop m s) (sym (e ∙ add-one i)))
@@ -90,6 +90,18 @@ take-four i s h =
     ∙ ap (λ (l : List ℕ). getD s (i + 1) 0 ∷ l)
     (take-next 1 (i + 2) (i + 3) s (omega arith) (omega arith)
     ∙ ap (λ (l : List ℕ). getD s (i + 2) 0 ∷ l) (take-next 0 (i + 3) (i + 4) s (omega arith) (omega arith))))
+
+-- four bytes of a list, each looked up
+pub four-looked : (row c at : ℕ) (s : List ℕ) {x₀ x₁ x₂ x₃ : ℕ} → at + 4 ≤ length s → c < 4294967296 → ((i : ℕ) → getD s i 0 < 256)
+    → x₀ ≡ turns 8 (suc (row + 3)) (bitXor c (getD s at 0) % 256)
+    → x₁ ≡ turns 8 (suc (row + 2)) (bitXor (c / 256) (getD s (at + 1) 0) % 256)
+    → x₂ ≡ turns 8 (suc (row + 1)) (bitXor (c / 65536) (getD s (at + 2) 0) % 256)
+    → x₃ ≡ turns 8 (suc row) (bitXor (c / 16777216) (getD s (at + 3) 0) % 256)
+    → bitXor x₀ (bitXor x₁ (bitXor x₂ x₃)) ≡ turns 8 row (bytesIn c (take 4 (drop at s)))
+four-looked row c at s h hc fits e₀ e₁ e₂ e₃ =
+    ap₂ bitXor e₀ (ap₂ bitXor e₁ (ap₂ bitXor e₂ e₃))
+    ∙ four-bytes row c (getD s at 0) (getD s (at + 1) 0) (getD s (at + 2) 0) (getD s (at + 3) 0) hc (fits at) (fits (at + 1)) (fits (at + 2)) (fits (at + 3))
+    ∙ ap (λ (l : List ℕ). turns 8 row (bytesIn c l)) (sym (take-four at s h))
 
 -- n + m bytes: the n first with m zero bytes after them, and the m others into the zero register
 pub first-part : (c n m i j : ℕ) (s : List ℕ) → j ≡ i + n → j + m ≤ length s
@@ -137,12 +149,31 @@ onward n i c s =
     ∙ ap (bytesIn c) (take-append-drop n (drop i s))
 
 -- a turn over one byte
-pub onward-one : (i c : ℕ) (s : List ℕ) → i < length s → bytesIn (bitsIn 8 c (getD s i 0)) (drop (i + 1) s) ≡ bytesIn c (drop i s)
+onward-one : (i c : ℕ) (s : List ℕ) → i < length s → bytesIn (bitsIn 8 c (getD s i 0)) (drop (i + 1) s) ≡ bytesIn c (drop i s)
 unfolding bytesIn
 onward-one i c s h =
     sym (ap (bytesIn c) (drop-cons s i 0 h ∙ ap (λ (m : ℕ). getD s i 0 ∷ drop m s) (sym (add-one i))))
 
 -- its end
-pub no-more : (i c : ℕ) (s : List ℕ) → length s ≤ i → bytesIn c (drop i s) ≡ c
+no-more : (i c : ℕ) (s : List ℕ) → length s ≤ i → bytesIn c (drop i s) ≡ c
 unfolding bytesIn
 no-more i c s h = ap (bytesIn c) (drop-of-length-le s h)
+
+-- a run over the bytes of s from `at` on, which has come to place i: its rest is the whole run
+pub record Underway (c at : ℕ) (s : List ℕ) (here i : ℕ) : Type 0 where
+  pub within : i ≤ length s
+  pub run : bytesIn here (drop i s) ≡ bytesIn c (drop at s)
+
+module _ (c at : ℕ) (s : List ℕ) where
+  pub underway-none : at ≤ length s → Underway c at s c at
+  underway-none h = record { within = h; run = refl }
+
+  module _ (here i : ℕ) (u : Underway c at s here i) where
+    pub underway-on : (n next : ℕ) → i + n ≤ length s → next ≡ bytesIn here (take n (drop i s)) → Underway c at s next (i + n)
+    underway-on n next h e = record { within = h; run = ap (λ (x : ℕ). bytesIn x (drop (i + n) s)) e ∙ onward n i here s ∙ u .run }
+
+    pub underway-one : (next : ℕ) → i < length s → next ≡ bitsIn 8 here (getD s i 0) → Underway c at s next (i + 1)
+    underway-one next h e = record { within = omega arith; run = ap (λ (x : ℕ). bytesIn x (drop (i + 1) s)) e ∙ onward-one i here s h ∙ u .run }
+
+    pub underway-out : length s ≤ i → here ≡ bytesIn c (drop at s)
+    underway-out h = sym (no-more i here s h) ∙ u .run

@@ -16,7 +16,7 @@ use Rattle.fields.proofs.Parts.{length-part}
 use Rattle.fields.proofs.Numbers.{length-bytes}
 use Rattle.config.specs.Limits.{maxDimensions, maxMetadata}
 use Rattle.config.specs.declared.Config.{Config}
-use Rattle.layout.specs.Layout.{itemLength, recordLength}
+use Rattle.layout.specs.Layout.{itemLength, recordLength, idLength}
 use Rattle.rows.specs.Rows.{operationOf, operationFrom}
 use Rattle.rows.specs.declared.Operation.{Operation}
 use Rattle.refusal.specs.Refusal.{Result, answer, refused, _>>=_, refuse, sizeTold}
@@ -26,10 +26,10 @@ use Rattle.refusal.specs.declared.Refusal.the-variants.{CaptionTooLong, Request
 use Rattle.refusal.proofs.Results.{answer-injective, passed, went}
 use Rattle.meaning.specs.Item.{coordinates}
 use Rattle.meaning.specs.Encoder.{Asked, isPut, askedLength, askedStart, Tagged, putFields, putFor, encodePut, encodeDelete, encodeOperation}
-use Rattle.encoder.specs.Requests.{tagOf, fieldsOf, taggedLength, captionTold, PutFits, Fits}
+use Rattle.encoder.specs.Requests.{tagOf, fieldsOf, taggedLength, mostTagged, captionTold, PutFits, Fits}
 
 -- ---- how long
-pub length-fields : (id n : ℕ) (coords text : List ℕ) → length (putFields id coords n text) ≡ 8 + itemLength (length coords) (length text)
+pub length-fields : (id n : ℕ) (coords text : List ℕ) → length (putFields id coords n text) ≡ idLength + itemLength (length coords) (length text)
 length-fields id n coords text = simp (length-append, length-bytes, length-coordinateBytes) (omega arith)
 
 module _ (d : ℕ) (coords captions : List ℕ) (o : Operation) where
@@ -37,23 +37,23 @@ module _ (d : ℕ) (coords captions : List ℕ) (o : Operation) where
   putBytes = putFields (o .id .0) (take d coords) (o .«caption_length») (part captions (o .at) (o .«caption_length»))
 
   pub put-fields : o .put ≡ true → fieldsOf d coords captions o ≡ putFields (o .id .0) (take d coords) (o .«caption_length») (part captions (o .at) (o .«caption_length»))
-  put-fields t = ap (λ (b : Bool). cond b putBytes (bytes 8 (o .id .0))) t
+  put-fields t = ap (λ (b : Bool). cond b putBytes (bytes idLength (o .id .0))) t
 
-  pub delete-fields : o .put ≡ false → fieldsOf d coords captions o ≡ bytes 8 (o .id .0)
-  delete-fields t = ap (λ (b : Bool). cond b putBytes (bytes 8 (o .id .0))) t
+  pub delete-fields : o .put ≡ false → fieldsOf d coords captions o ≡ bytes idLength (o .id .0)
+  delete-fields t = ap (λ (b : Bool). cond b putBytes (bytes idLength (o .id .0))) t
 
-  pub put-size : o .put ≡ true → PutFits d coords captions o → length (fieldsOf d coords captions o) ≡ 8 + itemLength d (o .«caption_length»)
+  pub put-size : o .put ≡ true → PutFits d coords captions o → length (fieldsOf d coords captions o) ≡ idLength + itemLength d (o .«caption_length»)
   put-size t f =
       ap length (put-fields t) ∙ length-fields (o .id .0) (o .«caption_length») (take d coords) (part captions (o .at) (o .«caption_length»))
       ∙ omega (arith, length-take-le d coords (f .vector), length-part captions (o .at) (o .«caption_length») (f .inside))
 
-  pub delete-size : o .put ≡ false → length (fieldsOf d coords captions o) ≡ 8
-  delete-size t = ap length (delete-fields t) ∙ length-bytes 8 (o .id .0)
+  pub delete-size : o .put ≡ false → length (fieldsOf d coords captions o) ≡ idLength
+  delete-size t = ap length (delete-fields t) ∙ length-bytes idLength (o .id .0)
 
-  pub fields-few : d ≤ maxDimensions → Fits d coords captions o → length (fieldsOf d coords captions o) ≤ 32780
+  pub fields-few : d ≤ maxDimensions → Fits d coords captions o → suc (length (fieldsOf d coords captions o)) ≤ mostTagged
   fields-few h f = go (o .put) refl
     where
-      go : (t : Bool) → o .put ≡ t → length (fieldsOf d coords captions o) ≤ 32780
+      go : (t : Bool) → o .put ≡ t → suc (length (fieldsOf d coords captions o)) ≤ mostTagged
       go true e = omega (arith, put-size e (f e), f e .short)
       go false e = omega (arith, delete-size e)
 

@@ -22,7 +22,7 @@ use Rattle.refusal.specs.declared.Refusal.the-variants.{WrongLength, WrongSeque
 use Rattle.refusal.specs.declared.Measured.the-variants as Measures
 use Rattle.refusal.specs.declared.Written.{Written}
 use Rattle.refusal.specs.declared.Written.the-variants as Writes
-use Rattle.refusal.proofs.Results.{passed, went, not-refused, answer-injective, measured-is}
+use Rattle.refusal.proofs.Results.{passed, went, not-refused, answer-injective, sized-is}
 use Rattle.meaning.specs.Encoder.{Asked, askedFrom, asked, isPut, putCount, Tagged, encodeOperation, encodeAll, batchCount, taggedBytes, payloadBytes, frameBytes, sealed, wordsChecked, encodeOperations, encodeValid, encode}
 use Rattle.meaning.specs.Calls.{outputAfter}
 use Rattle.frames.proofs.Frames.{length-frame}
@@ -126,7 +126,7 @@ pub ready : (shape : Shape) (c : Config) (sequence : ℕ) (words coords captions
     → length coords ≡ c .dimensions * putCount (asked words) → sizeTold (λ es. length (taggedBytes es)) (encodeAll c coords captions (asked words)) ≡ Measures.Length n
     → Ready shape c sequence words coords captions room n
 ready shape c sequence words coords captions room n few words-good enough e =
-    let s = measured-is (λ es. length (taggedBytes es)) (encodeAll c coords captions (asked words)) n e in
+    let s = sized-is (λ es. length (taggedBytes es)) (encodeAll c coords captions (asked words)) n e in
     let es = s .value in
     let same : es ≡ taggedOf c words coords captions = sym (ap taggedIn (s .is)) in
     let count : Count shape (length es) = subst (Count shape) (sym (length-tagged c words coords captions es (s .is))) (counting shape (length words) words-good .count) in

@@ -20,9 +20,9 @@ use Rattle.refusal.specs.Refusal.{Result, answer, refused, _>>=_, sizeTold}
 use Rattle.refusal.specs.declared.Refusal.{Refusal}
 use Rattle.refusal.specs.declared.Measured.{Measured}
 use Rattle.refusal.specs.declared.Measured.the-variants as Measures
-use Rattle.refusal.proofs.Results.{answer-injective, passed, go-on, give-up, measured-is}
+use Rattle.refusal.proofs.Results.{answer-injective, passed, go-on, give-up, sized-is}
 use Rattle.meaning.specs.Encoder.{Asked, askedFrom, asked, isPut, putCount, Tagged, encodeOperation, encodeAll, taggedBytes, payloadBytes}
-use Rattle.encoder.specs.Requests.{askedAt, taken, tagOf, fieldsOf, taggedLength, Fits, taggedOf, Accepted}
+use Rattle.encoder.specs.Requests.{askedAt, taken, tagOf, fieldsOf, taggedLength, mostTagged, Fits, taggedOf, Accepted}
 use Rattle.encoder.proofs.OperationLaws.{fields-few, id-of, Encodes, operation-encodes, encodes-fits}
 
 -- ---- the operations from k on
@@ -158,7 +158,7 @@ module _ (c : Config) (words coords captions : List ℕ) where
 -- the run from k on, behind `sum` bytes, is the whole run
 pub record Measuring (c : Config) (words coords captions : List ℕ) (sum at k : ℕ) : Type 0 where
   pub within : k ≤ length words / 2
-  pub few : sum ≤ 32781 * k
+  pub few : sum ≤ mostTagged * k
   pub enough : length coords ≡ at + c .dimensions * putCount (askedPast words k)
   pub run : measuredFrom c words coords captions sum at k ≡ sizeTold (λ es. length (taggedBytes es)) (encodeAll c coords captions (asked words))
 
@@ -179,15 +179,15 @@ module _ (c : Config) (words coords captions : List ℕ) where
 
   pub measuring-next : (sum at k m : ℕ) (o : Operation) → c .dimensions ≤ maxDimensions → Measuring c words coords captions sum at k → k < length words / 2 → o ≡ operationAt words k
       → sizeTold taggedLength (encodeOperation c (drop at coords) captions (askedAt words k)) ≡ Measures.Length m
-      → (m ≤ 32781) × Measuring c words coords captions (sum + m) (at + taken (o .put) (c .dimensions)) (k + 1)
+      → (m ≤ mostTagged) × Measuring c words coords captions (sum + m) (at + taken (o .put) (c .dimensions)) (k + 1)
   unfolding operationAt
   measuring-next sum at k m o valid l h u e =
       let asks = askedAt words k in
       let put = put-at words k o u in
-      let s = measured-is taggedLength (encodeOperation c (drop at coords) captions asks) m e in
+      let s = sized-is taggedLength (encodeOperation c (drop at coords) captions asks) m e in
       let x = operation-encodes c (drop at coords) captions asks (s .value) (s .is) in
       let fits = encodes-fits c (drop at coords) captions (operationOf (asks .id) (asks .word)) (s .value) x (λ t. vector-there words k h (c .dimensions) at coords (l .enough) t) in
-      let few : m ≤ 32781 = omega (arith, s .size-is, ap length (x .fields-are), fields-few (c .dimensions) (drop at coords) captions (operationOf (asks .id) (asks .word)) valid fits) in (
+      let few : m ≤ mostTagged = omega (arith, s .size-is, ap length (x .fields-are), fields-few (c .dimensions) (drop at coords) captions (operationOf (asks .id) (asks .word)) valid fits) in (
         few,
         record {
           within = omega arith;

@@ -7,7 +7,7 @@ use lib.ListN.{length, take, getD}
 use Rattle.utf8.specs.Utf8.{isUtf8}
 use Rattle.config.specs.Limits.{maxDimensions, maxMetadata}
 use Rattle.config.specs.declared.Config.{Config}
-use Rattle.layout.specs.Layout.{recordLength}
+use Rattle.layout.specs.Layout.{itemLength, recordLength, idLength, sequenceLength, batchHead}
 use Rattle.layout.specs.declared.Shape.{Shape}
 use Rattle.layout.specs.declared.Shape.the-variants.{Single, Batch}
 use Rattle.fields.specs.Fields.{part, bytes}
@@ -33,11 +33,15 @@ tagOf put = cond put 1 2
 
 abbrev pub fieldsOf : ℕ → List ℕ → List ℕ → Operation → List ℕ
 fieldsOf d coords captions o =
-    cond (o .put) (putFields (o .id .0) (take d coords) (o .«caption_length») (part captions (o .at) (o .«caption_length»))) (bytes 8 (o .id .0))
+    cond (o .put) (putFields (o .id .0) (take d coords) (o .«caption_length») (part captions (o .at) (o .«caption_length»))) (bytes idLength (o .id .0))
 
 -- its tag and its fields
 abbrev pub taggedLength : Tagged → ℕ
 taggedLength e = suc (length (e .fields))
+
+-- the most bytes that it has: a put's, of the longest vector with the longest caption
+abbrev pub mostTagged : ℕ
+mostTagged = 1 + idLength + itemLength maxDimensions maxMetadata
 
 -- a put of d coordinates with this caption, once nothing else is left to refuse
 abbrev pub captionTold : ℕ → List ℕ → Measured
@@ -55,8 +59,8 @@ Fits d coords captions o = o .put ≡ true → PutFits d coords captions o
 -- ---- a request
 -- what a payload has beside its tagged operations: opcode, sequence and count, or in a single frame the sequence
 abbrev pub headLength : Shape → ℕ
-headLength Single = 8
-headLength Batch = 13
+headLength Single = sequenceLength
+headLength Batch = batchHead
 
 abbrev pub taggedIn : Result (List Tagged) → List Tagged
 taggedIn (answer es) = es

@@ -9,7 +9,7 @@ ghost use Prim.Native.Nat.{suc, _+_, _*_, _/_, _≤_};
 ghost use lib.ListN.{length};
 ghost use Rattle.coordinates.specs.Coordinates.{coordinateBytes};
 ghost use Rattle.config.specs.Limits.{maxDimensions, maxMetadata, maxBatchOperations};
-ghost use Rattle.layout.specs.Layout.{itemLength};
+ghost use Rattle.layout.specs.Layout.{idLength, itemLength, batchHead};
 ghost use Rattle.fields.specs.Placed.{placed};
 ghost use Rattle.rows.specs.Rows.{OperationFits, operationOf};
 ghost use Rattle.refusal.specs.Refusal.{passes, checked, sizeTold, writtenTold};
@@ -214,11 +214,11 @@ fn check_batch(words: usize) -> Checked
 }
 
 fn head(shape: Shape) -> usize
-    ensures { λ r. ⌜ (r ≡ headLength shape) × (r ≤ 13) ⌝ }
+    ensures { λ r. ⌜ (r ≡ headLength shape) × (r ≤ batchHead) ⌝ }
 {
     match shape {
-        Shape::Single => 8,
-        Shape::Batch => 13,
+        Shape::Single => layout::SEQUENCE_LENGTH,
+        Shape::Batch => layout::BATCH_HEAD,
     }
 }
 
@@ -299,7 +299,7 @@ fn check_operation(
     if word != 0 {
         return Measured::Refused(Refusal::RequestMalformed);
     }
-    Measured::Length(9)
+    Measured::Length(layout::DELETE_LENGTH)
 }
 
 // 14, 33, 12, 13, 15.
@@ -401,7 +401,13 @@ fn write_batch(
         layout::OPCODE_AND_SEQUENCE,
         (operations.len() / 2) as u32,
     );
-    write_operations(&mut out[13..], config, operations, coordinates, captions);
+    write_operations(
+        &mut out[layout::BATCH_HEAD..],
+        config,
+        operations,
+        coordinates,
+        captions,
+    );
 }
 
 fn write_operations(
@@ -476,21 +482,21 @@ fn write_fields(
         let start = o.at;
         let stop = start + n;
         write_put(out, id.0, &coordinates[..d], &captions[start..stop]);
-        return 8 + layout::item_length(d, n);
+        return layout::ID_LENGTH + layout::item_length(d, n);
     }
     fields::put_u64(out, 0, id.0);
-    8
+    layout::ID_LENGTH
 }
 
 // ID, coordinates, caption length, caption.
 fn write_put(out: &mut [u8], id: u64, coordinates: &[u32], caption: &[u8])
     requires { ⌜ length (now caption) ≤ maxMetadata ⌝ }
-    requires { ⌜ 8 + itemLength (length (now coordinates)) (length (now caption)) ≤ length (now out) ⌝ }
+    requires { ⌜ idLength + itemLength (length (now coordinates)) (length (now caption)) ≤ length (now out) ⌝ }
     ensures { λ _. ⌜ now (out .exit) ≡ placed 0 (putFields id (now (coordinates .entry)) (length (now (caption .entry))) (now (caption .entry))) (now (out .entry)) ⌝ }
 {
     fields::put_u64(out, 0, id);
-    write_coordinates(&mut out[8..], coordinates);
-    let at = 8 + 4 * coordinates.len();
+    write_coordinates(&mut out[layout::ID_LENGTH..], coordinates);
+    let at = layout::ID_LENGTH + 4 * coordinates.len();
     fields::put_u32(out, at, caption.len() as u32);
     let rest = at + 4;
     fields::copy(&mut out[rest..], caption);

@@ -5,3 +5,4 @@ pub mod Writers
 pub mod WriteOn
 pub mod Edges
 pub mod PlacedLaws
+pub mod ZeroTail

@@ -24,7 +24,7 @@ use Rattle.graph.specs.Decoded.{graphAt, heightAt, Laid}
 use Rattle.graph.specs.Sound.{Sound}
 use Rattle.graph.specs.Told.{nextTold, passTold}
 use Rattle.graph.specs.declared.Entry.{Entry}
-use Rattle.graph.specs.declared.Header.{Header}
+use Rattle.graph.specs.declared.CacheHeader.{CacheHeader}
 use Rattle.graph.specs.declared.ReadNext.the-variants as Nexts
 use Rattle.graph.proofs.Several.{several-length, did-pass}
 use Rattle.graph.proofs.Decode.{nodes-read, nodes-tested, length-links, length-graph}
@@ -171,7 +171,7 @@ module _ (c : Config) (crc sequence count lent : ℕ) (s : List ℕ) where
   unfolding readCache
   cache-header why e = simp e
 
-  module _ (h : Header) (e : readHeader c crc sequence count lent s ≡ answer h) where
+  module _ (h : CacheHeader) (e : readHeader c crc sequence count lent s ≡ answer h) where
     pub cache-graph : (why : Refusal) → readGraph (c .m) count (h .entry) s ≡ refused why → readCache c crc sequence count lent s ≡ refused why
     unfolding readCache
     cache-graph why k = simp (e, k)

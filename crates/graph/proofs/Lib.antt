@@ -6,7 +6,6 @@ pub mod Listing
 pub mod Walk
 pub mod Shows
 pub mod Head
-pub mod ZeroTail
 pub mod Lost
 pub mod Starts
 pub mod Tested

@@ -1,6 +1,6 @@
 -- Loops that walk what was tested: numbers, levels and nodes in a row, one at a turn.
 use Prim.Native.Nat.{ℕ, suc, _+_, _*_, _-_, _≤_, _<_}
-use mathlib.Core.Path.{_≡_, sym, ap, _∙_}
+use mathlib.Core.Path.{_≡_, refl, sym, ap, _∙_}
 use mathlib.Core.Bool.{Bool, true, false, cond}
 use mathlib.Core.List.{List, [], _∷_}
 use native.Mathlib.Numerals.{add-one}
@@ -10,10 +10,10 @@ use lib.Seq.{drop-cons}
 use Rattle.fields.specs.Fields.{num}
 use Rattle.fields.proofs.Numbers.{num-one}
 use Rattle.graph.specs.Graph.{Links, Graph, anyOf, lostAt, lostFrom}
-use Rattle.graph.specs.Layout.{linksLength, nodeLength}
+use Rattle.graph.specs.Layout.{firstNode, linksLength, nodeLength}
 use Rattle.graph.specs.Cache.{numbersAt, levelsAt, linksAt}
-use Rattle.graph.specs.Decoded.{heightAt}
-use Rattle.graph.proofs.Decode.{length-numbers}
+use Rattle.graph.specs.Decoded.{graphAt, heightAt}
+use Rattle.graph.proofs.Decode.{length-numbers, length-graph}
 
 -- ---- numbers
 pub numbers-turn : (n i : ℕ) (s : List ℕ) (at : ℕ) → i < n → numbersAt (n - i) s at ≡ num s at 4 ∷ numbersAt (n - (i + 1)) s (at + 4)
@@ -81,8 +81,33 @@ lost-on height level links above ns e t =
     ap (lostFrom height level) e ∙ ap (λ (b : Bool). cond b true (lostFrom height (suc level) above)) t ∙ ap (λ (k : ℕ). lostFrom height k above) (sym (add-one level))
 
 -- ---- nodes
-pub nodes-turn : (i : ℕ) (g : Graph) → i < length g → drop i g ≡ getD g i [] ∷ drop (i + 1) g
+nodes-turn : (i : ℕ) (g : Graph) → i < length g → drop i g ≡ getD g i [] ∷ drop (i + 1) g
 nodes-turn i g h = drop-cons g i [] h ∙ ap (λ (k : ℕ). getD g i [] ∷ drop k g) (sym (add-one i))
 
-pub nodes-over : (i : ℕ) (g : Graph) → length g ≤ i → drop i g ≡ []
-nodes-over i g h = drop-of-length-le g h
+-- a walk over the nodes that looks for one: none passed is it, so the rest tells
+pub record Walking (test : Links → Bool) (count : ℕ) (s : List ℕ) (i : ℕ) : Type 0 where
+  pub within : i ≤ count
+  pub rest : anyOf test (drop i (graphAt count s firstNode)) ≡ anyOf test (graphAt count s firstNode)
+
+module _ (test : Links → Bool) (count : ℕ) (s : List ℕ) where
+  abbrev g : Graph
+  g = graphAt count s firstNode
+
+  pub walking-none : Walking test count s 0
+  walking-none = record { within = omega arith; rest = refl }
+
+  module _ (i : ℕ) (w : Walking test count s i) where
+    pub walking-here : i < count → test (getD g i []) ≡ true → true ≡ anyOf test g
+    walking-here h e = sym (any-here test (drop i g) (drop (i + 1) g) (getD g i []) (nodes-turn i g (omega (arith, length-graph count s firstNode))) e) ∙ w .rest
+
+    pub walking-on : i < count → test (getD g i []) ≡ false → Walking test count s (i + 1)
+    walking-on h e =
+        record {
+          within = omega arith;
+          rest = sym (any-on test (drop i g) (drop (i + 1) g) (getD g i []) (nodes-turn i g (omega (arith, length-graph count s firstNode))) e) ∙ w .rest;
+        }
+
+    pub walking-over : count ≤ i → false ≡ anyOf test g
+    walking-over h =
+        let over : length g ≤ i = omega (arith, length-graph count s firstNode) in
+        sym (ap (anyOf test) (drop-of-length-le g over)) ∙ w .rest

@@ -14,9 +14,9 @@ use Rattle.config.specs.declared.Config.{Config}
 use Rattle.refusal.specs.Refusal.{Result, answer, _>>=_, refuse}
 use Rattle.refusal.specs.declared.Refusal.the-variants.{LengthOutOfBounds, PastTheEnd, BytesLeftOver, WrongFileCrc, StaleCache, WrongNodeCount, WrongRngState, CountOverBytes, TooFewStarts}
 use Rattle.graph.specs.Graph.{Links, Graph, neighbourTest, degreeTest, levelsTest, linkedTest, entryOf}
-use Rattle.graph.specs.Layout.{magic, version, versionPlace, snapshotCrcPlace, sequencePlace, nodesPlace, entryPlace, rngPlace, firstNode}
+use Rattle.graph.specs.Layout.{cacheMagic, version, versionPlace, snapshotCrcPlace, sequencePlace, nodesPlace, entryPlace, rngPlace, firstNode}
 use Rattle.graph.specs.declared.Entry.{Entry}
-use Rattle.graph.specs.declared.Header.{Header}
+use Rattle.graph.specs.declared.CacheHeader.{CacheHeader}
 
 -- ---- what bytes stand for, unasked
 -- n numbers of 4 bytes from `at`
@@ -77,7 +77,7 @@ unfoldable pub headTest : ℕ → ℕ → ℕ → List ℕ → Result (Unit {0})
 headTest snapshotCrc sequence count s = do
   _ ← refuse LengthOutOfBounds (ltb (length s) minCacheBytes)
   _ ← refuse LengthOutOfBounds (ltb maxCacheBytes (length s))
-  _ ← refuse StaleCache (not (eqb (num s 0 8) (le magic)))
+  _ ← refuse StaleCache (not (eqb (num s 0 8) (le cacheMagic)))
   _ ← refuse StaleCache (not (eqb (num s versionPlace 4) version))
   _ ← refuse StaleCache (not (eqb (num s snapshotCrcPlace 4) snapshotCrc))
   _ ← refuse StaleCache (not (eqb (num s sequencePlace 8) sequence))
@@ -92,7 +92,7 @@ roomTest seed count startsLent s = do
   refuse TooFewStarts (ltb startsLent count)
 
 -- 6, 7, 8, 1, 40 to 45, 51
-unfoldable pub readHeader : Config → ℕ → ℕ → ℕ → ℕ → List ℕ → Result Header
+unfoldable pub readHeader : Config → ℕ → ℕ → ℕ → ℕ → List ℕ → Result CacheHeader
 readHeader c snapshotCrc sequence count startsLent s = do
   _ ← validate c
   _ ← headTest snapshotCrc sequence count s
@@ -116,7 +116,7 @@ readGraph m count entry s = do
   answer g
 
 pub record Cache : Type 0 where
-  pub header : Header
+  pub header : CacheHeader
   pub graph : Graph
 
 -- the settings, the snapshot's CRC and sequence, and how many records it has; then how many start entries are lent

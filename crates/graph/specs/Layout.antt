@@ -9,8 +9,12 @@ use Rattle.graph.specs.declared.Entry.{Entry}
 use Rattle.graph.specs.declared.Entry.the-variants as Entries
 
 -- "VECGRAPH"
-abbrev pub magic : List ℕ
-magic = 86 ∷ 69 ∷ 67 ∷ 71 ∷ 82 ∷ 65 ∷ 80 ∷ 72 ∷ []
+abbrev pub cacheMagic : List ℕ
+cacheMagic = 86 ∷ 69 ∷ 67 ∷ 71 ∷ 82 ∷ 65 ∷ 80 ∷ 72 ∷ []
+
+-- these 8 bytes as one number, as the code has it
+abbrev pub cacheMagicNumber : ℕ
+cacheMagicNumber = 5210736590506378582
 
 abbrev pub version : ℕ
 version = 1
@@ -59,7 +63,7 @@ entryNumber Entries.None = noEntry
 
 abbrev pub headerBytes : ℕ → ℕ → ℕ → Entry → ℕ → List ℕ
 headerBytes snapshotCrc sequence nodes entry rng =
-    magic ++ bytes 4 version ++ bytes 4 snapshotCrc ++ bytes 8 sequence ++ bytes 8 nodes ++ bytes 8 (entryNumber entry) ++ bytes 8 rng
+    cacheMagic ++ bytes 4 version ++ bytes 4 snapshotCrc ++ bytes 8 sequence ++ bytes 8 nodes ++ bytes 8 (entryNumber entry) ++ bytes 8 rng
 
 abbrev pub bodyBytes : ℕ → ℕ → ℕ → Entry → Graph → List ℕ
 bodyBytes snapshotCrc sequence rng entry g = headerBytes snapshotCrc sequence (length g) entry rng ++ graphBytes g

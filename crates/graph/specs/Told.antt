@@ -7,25 +7,25 @@ use Rattle.refusal.specs.declared.Checked.{Checked}
 use Rattle.refusal.specs.declared.Checked.the-variants as Checks
 use Rattle.graph.specs.Layout.{firstNode, startsFrom}
 use Rattle.graph.specs.Cache.{Read, Cache}
-use Rattle.graph.specs.Neighbours.{Part}
+use Rattle.graph.specs.Neighbours.{CachePart}
 use Rattle.graph.specs.declared.Entry.{Entry}
-use Rattle.graph.specs.declared.Header.{Header}
+use Rattle.graph.specs.declared.CacheHeader.{CacheHeader}
 use Rattle.graph.specs.declared.ReadEntry.{ReadEntry}
 use Rattle.graph.specs.declared.ReadEntry.the-variants as ReadEntries
-use Rattle.graph.specs.declared.ReadHeader.{ReadHeader}
-use Rattle.graph.specs.declared.ReadHeader.the-variants as ReadHeaders
+use Rattle.graph.specs.declared.ReadCacheHeader.{ReadCacheHeader}
+use Rattle.graph.specs.declared.ReadCacheHeader.the-variants as ReadCacheHeaders
 use Rattle.graph.specs.declared.ReadNext.{ReadNext}
 use Rattle.graph.specs.declared.ReadNext.the-variants as ReadNexts
 use Rattle.graph.specs.declared.ReadCache.{ReadCache}
 use Rattle.graph.specs.declared.ReadCache.the-variants as ReadCaches
-use Rattle.graph.specs.declared.Shown.{Shown}
-use Rattle.graph.specs.declared.Shown.the-variants as Showns
+use Rattle.graph.specs.declared.ShownLevel.{ShownLevel}
+use Rattle.graph.specs.declared.ShownLevel.the-variants as ShownLevels
 
 abbrev pub entryTold : Result Entry → ReadEntry
 entryTold = told (λ e. ReadEntries.Read e) (λ why. ReadEntries.Refused why)
 
-abbrev pub headerTold : Result Header → ReadHeader
-headerTold = told (λ h. ReadHeaders.Read h) (λ why. ReadHeaders.Refused why)
+abbrev pub headerTold : Result CacheHeader → ReadCacheHeader
+headerTold = told (λ h. ReadCacheHeaders.Read h) (λ why. ReadCacheHeaders.Refused why)
 
 -- of something read, where what follows begins
 abbrev pub nextTold : {A : Type 0} → Result (Read A) → ReadNext
@@ -44,9 +44,9 @@ abbrev pub startsAfter : ℕ → Result Cache → List ℕ
 startsAfter lent (answer c) = startsFrom firstNode (c .graph) ++ replicate (lent - length (c .graph)) 0
 startsAfter lent (refused why) = replicate lent 0
 
-abbrev pub shownTold : Result Part → Shown
-shownTold = told (λ p. Showns.Part (p .at) (p .size)) (λ why. Showns.Refused why)
+abbrev pub shownTold : Result CachePart → ShownLevel
+shownTold = told (λ p. ShownLevels.Part (p .at) (p .size)) (λ why. ShownLevels.Refused why)
 
 -- where a part begins, as a pointer: the block that the cache lies in, and its first byte there
-abbrev pub startOf : {A : Type 0} → A × ℕ → Part → A × ℕ
-startOf cache p = (cache .0, p .at + cache .1)
+abbrev pub partStart : {A : Type 0} → A × ℕ → CachePart → A × ℕ
+partStart cache p = (cache .0, p .at + cache .1)

@@ -13,9 +13,9 @@ ghost use Rattle.graph.specs.Graph.{Graph, degreeLimit, anyOf, lostAt, l
 ghost use Rattle.graph.specs.Layout.{firstNode, nodeLength, graphLength, startsFrom};
 ghost use Rattle.graph.specs.Cache.{numbersAt, linksAt, several, readNeighbour, readLevel, readNode, readNodes, headTest, roomTest, readHeader as headerOf, readBody, readGraph, readCache as cacheOf};
 ghost use Rattle.graph.specs.Decoded.{graphAt, heightAt, Laid, EntryIn};
-ghost use Rattle.graph.specs.Neighbours.{levelPart, levelAbove, neighbours as neighboursOf, given, partOf};
+ghost use Rattle.graph.specs.Neighbours.{levelPart, levelAbove, neighbours as neighboursOf, partGiven, partOf};
 ghost use Rattle.graph.specs.Marks.{Under};
-ghost use Rattle.graph.specs.Told.{entryTold, headerTold, nextTold, passTold, cacheTold, startsAfter, shownTold, startOf};
+ghost use Rattle.graph.specs.Told.{entryTold, headerTold, nextTold, passTold, cacheTold, startsAfter, shownTold, partStart};
 use config::Config;
 use refusal::Checked;
 use refusal::Refusal;
@@ -32,13 +32,13 @@ enum ReadEntry {
     Refused(Refusal),
 }
 
-pub struct Header {
+pub struct CacheHeader {
     pub entry: Entry,
     pub rng_state: u64,
 }
 
-enum ReadHeader {
-    Read(Header),
+enum ReadCacheHeader {
+    Read(CacheHeader),
     Refused(Refusal),
 }
 
@@ -60,7 +60,7 @@ pub enum ReadCache {
 }
 
 // A part of the cache: its first byte, its length.
-enum Shown {
+pub enum ShownLevel {
     Part(usize, usize),
     Refused(Refusal),
 }
@@ -165,35 +165,35 @@ fn read_header(
     sequence: u64,
     count: usize,
     lent: usize,
-) -> ReadHeader
+) -> ReadCacheHeader
     ensures { λ r. ⌜ r ≡ headerTold (headerOf config crc sequence count lent (now (s .entry))) ⌝ }
 {
     match config.validate() {
         Checked::Passed => {}
         Checked::Refused(why) => {
-            return ReadHeader::Refused(why);
+            return ReadCacheHeader::Refused(why);
         }
     }
     match check_head(s, crc, sequence, count) {
         Checked::Passed => {}
         Checked::Refused(why) => {
-            return ReadHeader::Refused(why);
+            return ReadCacheHeader::Refused(why);
         }
     }
     let entry = match read_entry(count, fields::get_u64(s, ENTRY_PLACE)) {
         ReadEntry::Read(e) => e,
         ReadEntry::Refused(why) => {
-            return ReadHeader::Refused(why);
+            return ReadCacheHeader::Refused(why);
         }
     };
     match check_room(s, config.seed, count, lent) {
         Checked::Passed => {}
         Checked::Refused(why) => {
-            return ReadHeader::Refused(why);
+            return ReadCacheHeader::Refused(why);
         }
     }
     let rng_state = fields::get_u64(s, RNG_PLACE);
-    ReadHeader::Read(Header { entry, rng_state })
+    ReadCacheHeader::Read(CacheHeader { entry, rng_state })
 }
 
 // ---- nodes in order
@@ -568,8 +568,8 @@ pub fn read_cache(
 {
     let lent = starts.len();
     let header = match read_header(bytes, config, crc, sequence, count, lent) {
-        ReadHeader::Read(h) => h,
-        ReadHeader::Refused(why) => {
+        ReadCacheHeader::Read(h) => h,
+        ReadCacheHeader::Refused(why) => {
             fields::fill_zero64(starts);
             return ReadCache::Refused(why);
         }
@@ -594,21 +594,21 @@ pub fn read_cache(
 
 // ---- one level's neighbours
 
-fn level_part(s: &[u8], at: usize) -> Shown
+fn level_part(s: &[u8], at: usize) -> ShownLevel
     requires { ⌜ at ≤ length (now s) ⌝ }
     ensures { λ r. ⌜ r ≡ shownTold (levelPart (now (s .entry)) at) ⌝ }
 {
     if s.len() - at < 4 {
-        return Shown::Refused(Refusal::RowDoesNotFit);
+        return ShownLevel::Refused(Refusal::RowDoesNotFit);
     }
     let size = 4 * (fields::get_u32(s, at) as usize);
     if s.len() - at - 4 < size {
-        return Shown::Refused(Refusal::RowDoesNotFit);
+        return ShownLevel::Refused(Refusal::RowDoesNotFit);
     }
-    Shown::Part(at + 4, size)
+    ShownLevel::Part(at + 4, size)
 }
 
-fn level_above(s: &[u8], level: usize, first: usize) -> Shown
+fn level_above(s: &[u8], level: usize, first: usize) -> ShownLevel
     requires { ⌜ first ≤ length (now s) ⌝ }
     ensures { λ r. ⌜ r ≡ shownTold (levelAbove level (now (s .entry)) first) ⌝ }
 {
@@ -616,11 +616,11 @@ fn level_above(s: &[u8], level: usize, first: usize) -> Shown
     let mut i: usize = 0;
     while i < level {
         match level_part(s, at) {
-            Shown::Part(part, size) => {
+            ShownLevel::Part(part, size) => {
                 at = part + size;
             }
-            Shown::Refused(why) => {
-                return Shown::Refused(why);
+            ShownLevel::Refused(why) => {
+                return ShownLevel::Refused(why);
             }
         }
         i += 1;
@@ -628,22 +628,29 @@ fn level_above(s: &[u8], level: usize, first: usize) -> Shown
     level_part(s, at)
 }
 
-fn neighbours_part(cache: &[u8], starts: &[u64], count: usize, node: Node, level: usize) -> Shown
+// Where they lie: for a caller that cannot be handed a slice, and for the view below.
+pub fn neighbours_part(
+    cache: &[u8],
+    starts: &[u64],
+    count: usize,
+    node: Node,
+    level: usize,
+) -> ShownLevel
     ensures { λ r. ⌜ r ≡ shownTold (neighboursOf (now (cache .entry)) (now (starts .entry)) count (node .0) level) ⌝ }
 {
     let n = node.0 as usize;
     if count <= n {
-        return Shown::Refused(Refusal::NoSuchNode);
+        return ShownLevel::Refused(Refusal::NoSuchNode);
     }
     if starts.len() < count {
-        return Shown::Refused(Refusal::NoSuchNode);
+        return ShownLevel::Refused(Refusal::NoSuchNode);
     }
     let start = starts[n] as usize;
     if cache.len() <= start {
-        return Shown::Refused(Refusal::RowDoesNotFit);
+        return ShownLevel::Refused(Refusal::RowDoesNotFit);
     }
     if wide(cache[start]) <= level {
-        return Shown::Refused(Refusal::NoSuchNode);
+        return ShownLevel::Refused(Refusal::NoSuchNode);
     }
     level_above(cache, level, start + 1)
 }
@@ -656,15 +663,15 @@ pub fn neighbours<'a>(
     node: Node,
     level: usize,
 ) -> &'a [u8]
-    ensures { λ r. ⌜ now r ≡ partOf (now (cache .entry)) (given (neighboursOf (now (cache .entry)) (now (starts .entry)) count (node .0) level)) ⌝ }
-    ensures { λ r. ⌜ r .ptr ≡ startOf (cache .entry .ptr) (given (neighboursOf (now (cache .entry)) (now (starts .entry)) count (node .0) level)) ⌝ }
+    ensures { λ r. ⌜ now r ≡ partOf (now (cache .entry)) (partGiven (neighboursOf (now (cache .entry)) (now (starts .entry)) count (node .0) level)) ⌝ }
+    ensures { λ r. ⌜ r .ptr ≡ partStart (cache .entry .ptr) (partGiven (neighboursOf (now (cache .entry)) (now (starts .entry)) count (node .0) level)) ⌝ }
 {
     match neighbours_part(cache, starts, count, node, level) {
-        Shown::Part(at, size) => {
+        ShownLevel::Part(at, size) => {
             let end = at + size;
             &cache[at..end]
         }
-        Shown::Refused(_) => &cache[..0],
+        ShownLevel::Refused(_) => &cache[..0],
     }
 }
 
@@ -679,7 +686,7 @@ pub fn neighbours_number(
     ensures { λ r. ⌜ r ≡ numberTold (neighboursOf (now (cache .entry)) (now (starts .entry)) count (node .0) level) ⌝ }
 {
     match neighbours_part(cache, starts, count, node, level) {
-        Shown::Part(_, _) => 0,
-        Shown::Refused(why) => why.number(),
+        ShownLevel::Part(_, _) => 0,
+        ShownLevel::Refused(why) => why.number(),
     }
 }

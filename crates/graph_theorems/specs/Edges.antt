@@ -1,16 +1,13 @@
 -- P10 of document 01, and an accepted cache beside it: each computed on bytes. Snapshot CRC 7, sequence 5, one record, the settings of `Config::new 1`.
 use Prim.Native.Nat.{ℕ}
-use mathlib.Core.Path.{_≡_, refl}
+use mathlib.Core.Path.{_≡_}
 use mathlib.Core.List.{List, [], _∷_}
-use Rattle.crc32.specs.Crc.{crcOf, bytesIn, bitsIn, bitIn}
-use Rattle.fields.specs.Fields.{le, bytes}
 use Rattle.rng.specs.Rng.{rngState}
-use Rattle.config.specs.Settings.{defaults, validate, inRange}
+use Rattle.config.specs.Settings.{defaults}
 use Rattle.refusal.specs.Refusal.{answer, refused}
 use Rattle.refusal.specs.declared.Refusal.the-variants.{WrongLevels}
-use Rattle.graph.specs.Graph.{degreeLimit, degreeTest, levelsTest, linkedTest, entryOf}
 use Rattle.graph.specs.Layout.{cacheBytes}
-use Rattle.graph.specs.Cache.{Cache, readLevel, readNode, readNodes, headTest, roomTest, readHeader, readBody, readGraph, readCache}
+use Rattle.graph.specs.Cache.{Cache, readCache}
 use Rattle.graph.specs.Told.{startsAfter}
 use Rattle.graph.specs.declared.Entry.the-variants as Entries
 
@@ -28,21 +25,9 @@ manyLevels = 86 ∷ 69 ∷ 67 ∷ 71 ∷ 82 ∷ 65 ∷ 80 ∷ 72 ∷ 1 ∷ 0 ∷
 abbrev pub oneNode : Cache
 oneNode = record { header = record { entry = Entries.Node (record { 0 = 0 }); «rng_state» = rngState 42 1 }; graph = ([] ∷ []) ∷ [] }
 
-pub P10-no-levels : readCache (defaults 1) 7 5 1 1 noLevels ≡ refused WrongLevels
-unfolding readCache readHeader headTest roomTest entryOf validate inRange rngState le readGraph readBody readNodes readNode levelsTest
-P10-no-levels = refl
-
-pub P10-34-levels : readCache (defaults 1) 7 5 1 1 manyLevels ≡ refused WrongLevels
-unfolding readCache readHeader headTest roomTest entryOf validate inRange rngState le readGraph readBody readNodes readNode levelsTest
-P10-34-levels = refl
-
-pub one-level-accepted : readCache (defaults 1) 7 5 1 1 oneLevel ≡ answer oneNode
-unfolding readCache readHeader headTest roomTest entryOf validate inRange rngState le readGraph readBody readNodes readNode levelsTest readLevel degreeTest degreeLimit linkedTest crcOf bytesIn bitsIn bitIn
-one-level-accepted = refl
-
-pub one-level-starts : startsAfter 3 (answer oneNode) ≡ 48 ∷ 0 ∷ 0 ∷ []
-one-level-starts = refl
-
-pub one-level-written : cacheBytes 7 5 (rngState 42 1) (Entries.Node (record { 0 = 0 })) (([] ∷ []) ∷ []) ≡ oneLevel
-unfolding bytes crcOf bytesIn bitsIn bitIn rngState
-one-level-written = refl
+pub record CacheEdges : Type 0 where
+  pub P10-no-levels : readCache (defaults 1) 7 5 1 1 noLevels ≡ refused WrongLevels
+  pub P10-34-levels : readCache (defaults 1) 7 5 1 1 manyLevels ≡ refused WrongLevels
+  pub one-level-accepted : readCache (defaults 1) 7 5 1 1 oneLevel ≡ answer oneNode
+  pub one-level-starts : startsAfter 3 (answer oneNode) ≡ 48 ∷ 0 ∷ 0 ∷ []
+  pub one-level-written : cacheBytes 7 5 (rngState 42 1) (Entries.Node (record { 0 = 0 })) (([] ∷ []) ∷ []) ≡ oneLevel

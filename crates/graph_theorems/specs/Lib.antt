@@ -1,7 +1,6 @@
-pub mod Laid
-pub mod Written
-pub mod Viewed
+pub mod CacheLayout
+pub mod CacheReadBack
+pub mod CacheViewed
+pub mod CacheCalls
 pub mod Edges
-pub mod Promises
-pub mod Back
-pub mod ReadBack
+pub mod CacheTheorems

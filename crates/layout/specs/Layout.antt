@@ -8,6 +8,10 @@ use Rattle.layout.specs.declared.Version.the-variants.{One, Two}
 abbrev pub magic : List ℕ
 magic = 86 ∷ 69 ∷ 67 ∷ 84 ∷ 79 ∷ 82 ∷ 83 ∷ 49 ∷ []
 
+-- these 8 bytes as one number, as the code has it
+abbrev pub magicNumber : ℕ
+magicNumber = 3554275031595042134
+
 -- version 2 has the metric, 4 bytes, before the seed
 abbrev pub metricLength : Version → ℕ
 metricLength One = 0
@@ -47,3 +51,13 @@ frameHead = 8
 
 abbrev pub frameLength : ℕ → ℕ
 frameLength payload = payload + 12
+
+-- an operation's ID; a payload's sequence, and what a batch has before its operations: opcode, sequence, count
+abbrev pub idLength : ℕ
+idLength = 8
+
+abbrev pub sequenceLength : ℕ
+sequenceLength = 8
+
+abbrev pub batchHead : ℕ
+batchHead = 13

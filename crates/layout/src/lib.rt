@@ -43,6 +43,16 @@ pub const FRAME_AROUND: usize = 12;
 // An opcode and a sequence, at a payload's front.
 pub const OPCODE_AND_SEQUENCE: usize = 9;
 
+// The sequence alone, and what a batch has before its operations: opcode, sequence, count.
+pub const SEQUENCE_LENGTH: usize = 8;
+
+pub const BATCH_HEAD: usize = 13;
+
+// An operation's ID, and a delete as it stands in a batch: its tag and its ID.
+pub const ID_LENGTH: usize = 8;
+
+pub const DELETE_LENGTH: usize = 9;
+
 // A frame of one delete.
 pub const DELETE_FRAME: usize = 29;
 

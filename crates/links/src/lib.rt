@@ -28,7 +28,7 @@ const CAPTION_LENGTHS: u64 = 32_768;
 
 const SOURCE: u64 = 4_611_686_018_427_387_904;
 
-const DELETED: u64 = 9_223_372_036_854_775_808;
+pub const DELETED: u64 = 9_223_372_036_854_775_808;
 
 // Internal: nothing is asked. A row word with no link in it.
 pub fn plain(word: u64) -> u64

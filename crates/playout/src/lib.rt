@@ -1,4 +1,4 @@
-// The three calls of the playout host, which is C: host/lambspool.h has their C declarations. A C caller is checked by nothing,
+// The three calls of the playout host, which is C: host/playout.h has their C declarations. A C caller is checked by nothing,
 // so no call has a `requires`.
 ghost use mathlib.Core.Path.{_≡_};
 ghost use Rattle.crc32.specs.Crc.{crcOf};

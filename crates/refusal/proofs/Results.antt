@@ -1,11 +1,11 @@
 -- Laws of results: a test that stops, a test that is passed, and what an answer says of all that was passed on the way to it.
-use mathlib.Core.Path.{_≡_, refl, sym, ap, subst, _∙_}
+use mathlib.Core.Path.{_≡_, refl, sym, ap, subst}
 use mathlib.Core.Bool.{Bool, true, false, true≢false, false≢true}
 use mathlib.Core.List.{List}
 use Prim.Native.Nat.{ℕ}
 use native.Mathlib.Omega.{arith}
 use lib.ListN.{length}
-use Rattle.refusal.specs.Refusal.{Result, answer, refused, _>>=_, refuse, told, checked, sizeTold, writtenTold}
+use Rattle.refusal.specs.Refusal.{Result, answer, refused, _>>=_, refuse, told, sizeTold, writtenTold}
 use Rattle.refusal.specs.declared.Refusal.{Refusal}
 use Rattle.refusal.specs.declared.Checked.the-variants as Checks
 use Rattle.refusal.specs.declared.Measured.the-variants as Measures
@@ -80,28 +80,20 @@ pub told-bind : {A B C : Type 0} (good : B → C) (bad : Refusal → C) (r : Res
 told-bind good bad (answer a) next = refl
 told-bind good bad (refused why) next = refl
 
--- ---- what the code's enums say of the result that they tell
-pub checked-is : (r : Result (Unit {0})) → checked r ≡ Checks.Passed → r ≡ answer tt
-checked-is (answer tt) e = refl
-checked-is (refused why) e = absurd (let z : _≡_ {A = ℕ} 0 1 = cc in omega arith)
-
-pub checked-not : (r : Result (Unit {0})) (why : Refusal) → checked r ≡ Checks.Refused why → r ≡ refused why
-checked-not (answer tt) why e = absurd (let z : _≡_ {A = ℕ} 0 1 = cc in omega arith)
-checked-not (refused w) why e = let same : w ≡ why = cc in ap refused same
-
+-- ---- what the code's enums say of the result that they tell (those that tell all of it: `Inverses`)
 -- an answer, told by its size
 pub record Sized {A : Type 0} (size : A → ℕ) (r : Result A) (n : ℕ) : Type 0 where
   pub value : A
   pub is : r ≡ answer value
   pub size-is : size value ≡ n
 
-pub measured-is : {A : Type 0} (size : A → ℕ) (r : Result A) (n : ℕ) → sizeTold size r ≡ Measures.Length n → Sized size r n
-measured-is size (answer a) n e = record { value = a; is = refl; size-is = cc }
-measured-is size (refused why) n e = absurd (let z : _≡_ {A = ℕ} 0 1 = cc in omega arith)
+pub sized-is : {A : Type 0} (size : A → ℕ) (r : Result A) (n : ℕ) → sizeTold size r ≡ Measures.Length n → Sized size r n
+sized-is size (answer a) n e = record { value = a; is = refl; size-is = cc }
+sized-is size (refused why) n e = absurd (let z : _≡_ {A = ℕ} 0 1 = cc in omega arith)
 
-pub measured-not : {A : Type 0} (size : A → ℕ) (r : Result A) (why : Refusal) → sizeTold size r ≡ Measures.Refused why → r ≡ refused why
-measured-not size (answer a) why e = absurd (let z : _≡_ {A = ℕ} 0 1 = cc in omega arith)
-measured-not size (refused w) why e = let same : w ≡ why = cc in ap refused same
+pub sized-not : {A : Type 0} (size : A → ℕ) (r : Result A) (why : Refusal) → sizeTold size r ≡ Measures.Refused why → r ≡ refused why
+sized-not size (answer a) why e = absurd (let z : _≡_ {A = ℕ} 0 1 = cc in omega arith)
+sized-not size (refused w) why e = let same : w ≡ why = cc in ap refused same
 
 pub written-is : (r : Result (List ℕ)) (n : ℕ) → writtenTold r ≡ Writes.Bytes n → Sized length r n
 written-is (answer a) n e = record { value = a; is = refl; size-is = cc }

@@ -1,6 +1,6 @@
 -- A product modulo H * H from the halves of its factors to the base H: the product of the high halves counts for nothing there, and of the two cross products only the low half counts.
 use Prim.Native.Nat.{ℕ, _+_, _*_, _/_, _%_, _<_}
-use mathlib.Core.Path.{_≡_, refl, sym, ap, ap₂, _∙_}
+use mathlib.Core.Path.{_≡_, sym, ap, ap₂, _∙_}
 use native.Mathlib.Nat.{add-mul, mul-add, mul-assoc, mul-comm, add-assoc, div-add-mod', mul-add-mod-self-right, add-mod, mul-le-mul-left, mul-lt-mul-of-pos-right, lt-of-le-of-lt, le-of-lt}
 
 module _ (H a b : ℕ) where

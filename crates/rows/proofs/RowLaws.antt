@@ -1,15 +1,15 @@
 -- Rows and operations by plain arithmetic, as the code has them; then a word and what it packs determine each other, and a table after a row is put.
 use Prim.Native.Nat.{ℕ, zero, suc, _+_, _*_, _/_, _%_, _^_, _<_}
-use mathlib.Core.Path.{_≡_, refl, sym, ap, ap₂, _∙_}
+use mathlib.Core.Path.{_≡_, refl, ap, ap₂, _∙_}
 use mathlib.Core.Bool.{Bool, true, false}
-use mathlib.Core.List.{List, [], _∷_}
-use native.Mathlib.Nat.{div-one, mod-lt, lt-irrefl}
+use mathlib.Core.List.{List}
+use native.Mathlib.Nat.{div-one, mod-lt}
 use native.Mathlib.Omega.{arith}
 use lib.Dec.{eqb, lit<}
 use lib.ListN.{length, getD, set, length-set}
 use lib.Seq.{getD-set-same, getD-set-other}
 use Rattle.rows.specs.Packed.{total, packed, fields, Fitting, none, more}
-use Rattle.rows.specs.Rows.{rowWidths, operationWidths, bit, rowValues, rowFrom, rowWord, rowOf, RowFits, rowAt, setRow, operationValues, operationFrom, operationWord, operationOf, OperationFits, operationAt}
+use Rattle.rows.specs.Rows.{rowWidths, operationWidths, bit, rowValues, rowFrom, rowWord, rowOf, RowFits, rowAt, setRow, operationValues, operationFrom, operationWord, operationOf, OperationFits}
 use Rattle.rows.specs.declared.Row.{Row}
 use Rattle.rows.specs.declared.Operation.{Operation}
 use Rattle.rows.proofs.PackedLaws.{packed-below, fields-of-packed, packed-of-fields}

@@ -7,6 +7,7 @@ use mathlib.Core.Path.{_≡_, refl, sym, ap, _∙_, subst}
 use lib.Dec.{ltb}
 use lib.ListN.{length, getD, set}
 use borrow.Author.Tests.{ltb-true, ltb-false}
+use Rattle.config.specs.Limits.{maxRecords}
 use Rattle.digital_tree.specs.Look.{mixedId, Shape}
 use Rattle.digital_tree.proofs.PutLaws.{Same, yes, no, same}
 use Rattle.tree.specs.declared.Tree.{Tree}
@@ -38,7 +39,7 @@ bare ids link low high none =
 module _ (t : Tree) (words entries : List ℕ) (g : Grown t words entries) (t′ : Tree) (words′ : List ℕ) (id word : ℕ)
     (written : words′ ≡ putAt words (t .count) id word)
     (root-kept : t′ .root ≡ t .root) (counted : t′ .count ≡ suc (t .count)) (front : t′ .sorted ≡ suc (t .count))
-    (whole : t .sorted ≡ t .count) (few : t .count < 100000) (room : 2 * t .count + 2 ≤ length words) (entries-room : t .count < length entries)
+    (whole : t .sorted ≡ t .count) (few : t .count < maxRecords) (room : 2 * t .count + 2 ≤ length words) (entries-room : t .count < length entries)
     (over : 0 < t .count → idOf (plainRows words) (t .count) < id) (absent : word < deletedUnit → Absent (plainRows words) (t .count) id) where
   rows-are : plainRows words′ ≡ putAt (plainRows words) (t .count) id (plainWord word)
   rows-are = ap plainRows written ∙ plain-put words (t .count) id word

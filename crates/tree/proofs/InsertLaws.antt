@@ -7,6 +7,7 @@ use mathlib.Core.Path.{_≡_, refl, sym, ap, _∙_, subst}
 use lib.Dec.{eqb}
 use lib.ListN.{length, getD}
 use borrow.Author.Tests.{eq-eqb, ne-eqb}
+use Rattle.config.specs.Limits.{maxRecords}
 use Rattle.digital_tree.specs.Look.{mixedId, look, Shape, Inside}
 use Rattle.digital_tree.proofs.MixLaws.{mixed-one-to-one, mixed-below}
 use Rattle.digital_tree.proofs.ShapeLaws.{Ends, on-start, ends, look-inside, cells-inside}
@@ -40,7 +41,7 @@ module _ (t : Tree) (words entries : List ℕ) (g : Grown t words entries) (boun
 module _ (t : Tree) (words entries : List ℕ) (g : Grown t words entries) (bounded : Words words)
     (t′ : Tree) (words′ entries′ : List ℕ) (y id word : ℕ)
     (counted : t′ .count ≡ suc (t .count)) (front : t′ .sorted ≡ t .sorted)
-    (some : 0 < t .count) (few : t .count < 100000) (room : 2 * t .count + 2 ≤ length words)
+    (some : 0 < t .count) (few : t .count < maxRecords) (room : 2 * t .count + 2 ≤ length words)
     (words-kept : length words′ ≡ length words) (entries-room : t .count < length entries) (entries-kept : length entries′ ≡ length entries)
     (id-fits : id < 2 ^ 64) (stops : y ≡ cellOf t words entries id) (absent : Absent (plainRows words) (t .count) id)
     (s : Spliced t words entries (t′ .root) words′ entries′ y id word) where

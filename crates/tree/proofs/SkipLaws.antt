@@ -5,6 +5,7 @@ use mathlib.Core.List.{List}
 use mathlib.Core.Path.{_≡_, sym, ap, ap₂, _∙_, subst, fun-ext}
 use lib.ListN.{length, getD, set, length-set}
 use lib.Seq.{getD-set-same, getD-set-other}
+use Rattle.config.specs.Limits.{maxRecords}
 use Rattle.digital_tree.specs.Look.{mixedId, look, Shape}
 use Rattle.digital_tree.proofs.PutLaws.{Same, yes, no, same}
 use Rattle.tree.specs.declared.Tree.{Tree}
@@ -30,7 +31,7 @@ out-rows words n =
 
 module _ (t : Tree) (words entries : List ℕ) (g : Grown t words entries) (t′ : Tree)
     (root-kept : t′ .root ≡ t .root) (counted : t′ .count ≡ suc (t .count)) (front : t′ .sorted ≡ t .sorted)
-    (few : t .count < 100000) (room : 2 * t .count + 2 ≤ length words) (entries-room : t .count < length entries)
+    (few : t .count < maxRecords) (room : 2 * t .count + 2 ≤ length words) (entries-room : t .count < length entries)
     (dead : deletedUnit ≤ getD words (2 * t .count + 1) 0) where
   words′ : List ℕ
   words′ = outWords words (t .count)

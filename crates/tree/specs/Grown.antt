@@ -5,6 +5,7 @@ use mathlib.Core.List.{List}
 use mathlib.Core.Path.{_≡_}
 use lib.ListN.{length, getD}
 use lib.Dec.{eqb, ltb, leb}
+use Rattle.config.specs.Limits.{maxRecords}
 use Rattle.tree.specs.declared.Tree.{Tree}
 use Rattle.links.specs.Links.{deletedUnit, linkIn, plainRows, plainWord, putAt, marked, captionFreed}
 use Rattle.digital_tree.specs.Look.{mixedId, look, Shape}
@@ -55,7 +56,7 @@ cellOf t words entries id = look mixedId (idOf (plainRows words)) (linkOf t word
 pub record Grown (t : Tree) (words entries : List ℕ) : Type 0 where
   pub words-lent : 2 * t .count ≤ length words
   pub entries-lent : t .count ≤ length entries
-  pub few : t .count ≤ 100000
+  pub few : t .count ≤ maxRecords
   pub front : t .sorted ≤ t .count
   pub rising : Rising (plainRows words) (t .sorted)
   pub once : Once (plainRows words) (t .count)
@@ -67,7 +68,7 @@ pub record Grown (t : Tree) (words entries : List ℕ) : Type 0 where
 pub record Room (t : Tree) (words entries : List ℕ) : Type 0 where
   pub words-room : 2 * t .count + 2 ≤ length words
   pub entries-room : t .count < length entries
-  pub fewer : t .count < 100000
+  pub fewer : t .count < maxRecords
 
 -- whether a row of this ID would extend the front: it has every row, and the last one's ID is smaller
 pub record Extends (rows : List ℕ) (t : Tree) (id : ℕ) : Type 0 where

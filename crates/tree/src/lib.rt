@@ -13,6 +13,7 @@ ghost use mathlib.Core.Path.{_≡_};
 ghost use mathlib.Core.Bool.{true};
 ghost use mathlib.Core.List.{_++_};
 ghost use lib.ListN.{length, getD, take, drop};
+ghost use Rattle.config.specs.Limits.{maxRecords};
 ghost use Rattle.digital_tree.specs.Look.{mixedId, bitAt, Inside};
 ghost use Rattle.links.specs.Links.{links, liveLink, plainRows, putAt, deletedUnit};
 ghost use Rattle.tree.specs.Grown.{Absent, Finds, Once, Rising, Bound, linkOf, cellOf, childOf, Grown, Spliced, Added, Marked, Rises, TakenUp, Room};
@@ -32,9 +33,6 @@ pub struct Place {
 const MIXER: u64 = 0x9e37_79b9_7f4a_7c15;
 
 const DEPTH: u32 = 64;
-
-// What the bit of deleted rows counts by in a row word.
-const DELETED: u64 = 9_223_372_036_854_775_808;
 
 fn mixed(id: u64) -> u64
     ensures { λ r. ⌜ r ≡ mixedId id ⌝ }
@@ -109,7 +107,7 @@ fn in_front(words: &[u64], sorted: usize, id: u64) -> usize
     if words[2 * at] != id {
         return 0;
     }
-    if DELETED <= words[2 * at + 1] {
+    if links::DELETED <= words[2 * at + 1] {
         return 0;
     }
     at + 1
@@ -125,7 +123,7 @@ fn in_cell(words: &[u64], entries: &[u32], tree: Tree, cell: usize) -> usize
     if link == 0 {
         return 0;
     }
-    if DELETED <= words[2 * link - 1] {
+    if links::DELETED <= words[2 * link - 1] {
         return 0;
     }
     link
@@ -309,7 +307,7 @@ fn take_up(words: &mut [u64], entries: &mut [u32], tree: Tree) -> Tree
     if rises(words, tree, id) {
         return extend(words, entries, tree, id, word);
     }
-    if DELETED <= word {
+    if links::DELETED <= word {
         return leave_out(words, entries, tree);
     }
     let cell = search(words, entries, tree, id);
@@ -321,7 +319,7 @@ fn take_up(words: &mut [u64], entries: &mut [u32], tree: Tree) -> Tree
 pub fn begin(words: &mut [u64], entries: &mut [u32], count: usize) -> Tree
     requires { ⌜ 2 * count ≤ length (now words) ⌝ }
     requires { ⌜ count ≤ length (now entries) ⌝ }
-    requires { ⌜ count ≤ 100000 ⌝ }
+    requires { ⌜ count ≤ maxRecords ⌝ }
     requires { ⌜ Once (plainRows (now words)) count ⌝ }
     ensures { λ r. ⌜ Grown r (now (words .exit)) (now (entries .exit)) ⌝ }
     ensures { λ r. ⌜ r .count ≡ count ⌝ }

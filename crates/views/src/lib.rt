@@ -35,7 +35,7 @@ enum Named {
 }
 
 // The part that a view gives.
-enum Viewed {
+pub enum Viewed {
     Part(Part),
     Refused(Refusal),
 }
@@ -109,7 +109,8 @@ fn part_for(shown: Shown, d: usize, row: Row, snapshot: &[u8], log: &[u8]) -> Vi
     Viewed::Part(part)
 }
 
-fn view(
+// Where the caption or the vector lies: for a caller that cannot be handed a slice, and for the views below.
+pub fn view(
     shown: Shown,
     snapshot: &[u8],
     log: &[u8],

@@ -9,7 +9,7 @@ use Rattle.crc32.specs.Crc.{crcOf}
 use Rattle.fields.specs.Fields.{bytes}
 use Rattle.fields.proofs.Numbers.{length-bytes}
 use Rattle.config.specs.declared.Config.{Config}
-use Rattle.layout.specs.Layout.{magic, headerLength}
+use Rattle.layout.specs.Layout.{magic, magicNumber, headerLength}
 use Rattle.layout.specs.declared.Extent.{Extent}
 use Rattle.layout.specs.declared.Version.the-variants.{Two}
 use Rattle.rows.specs.declared.Row.{Row}
@@ -19,7 +19,7 @@ use Rattle.meaning.specs.Writer.{anyMisfit, written, fileLength}
 use Rattle.writer.specs.RowsWritten.{rowsBytes, settingsBytes}
 use Rattle.writer.proofs.WrittenLaws.{length-rows-bytes}
 
-pub magic-bytes : bytes 8 3554275031595042134 ≡ magic
+pub magic-bytes : bytes 8 magicNumber ≡ magic
 unfolding bytes
 magic-bytes = refl
 

@@ -1,7 +1,7 @@
 -- `zeros32` clears the rest of the entries.
 use borrow.Author.Needs.{needs}
 use denote.Ref.{now}
-use Rattle.active.proofs.ZeroTail.{zero-tail}
+use Rattle.fields.proofs.ZeroTail.{zero-tail}
 use Rattle.active.proofs.zeros32.Statement.{statement}
 use Rattle.active.proofs.zeros32.Tie as tie
 

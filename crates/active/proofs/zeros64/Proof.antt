@@ -1,7 +1,7 @@
 -- `zeros64` clears the rest of the words.
 use borrow.Author.Needs.{needs}
 use denote.Ref.{now}
-use Rattle.active.proofs.ZeroTail.{zero-tail}
+use Rattle.fields.proofs.ZeroTail.{zero-tail}
 use Rattle.active.proofs.zeros64.Statement.{statement}
 use Rattle.active.proofs.zeros64.Tie as tie
 

@@ -11,12 +11,6 @@ use Rattle.fields.specs.Fields.{part}
 use Rattle.coordinates.proofs.check_coordinates.Statement.{statement}
 use Rattle.coordinates.proofs.check_coordinates.Tie as tie
 
-largest-at-requires : tie.Need-largest-at-requires
-largest-at-requires c κs = search needs
-
-judge-requires : tie.Need-judge-requires
-judge-requires c κs = search needs
-
 returns : tie.Need-returns
 returns c =
     let a = c .before .before .before .args in
@@ -26,4 +20,4 @@ returns c =
     ∙ judged-largest (a .cosine) (patterns (a .d) (part (a .s .now) (a .at) (4 * a .d))))
 
 pub check-coordinates-spec : {M : Type 1} → statement M
-check-coordinates-spec = tie.close (tie.spec largest-at-requires judge-requires returns)
+check-coordinates-spec = tie.close (tie.spec (λ c κs. search needs) (λ c κs. search needs) returns)

@@ -25,24 +25,6 @@ loop-holds c =
     let p : a .at + 4 * 0 ≡ a .at = omega arith in
     (omega arith, ap (λ (k : ℕ). largest 0 (patterns k (drop (a .at + 4 * 0) (a .s .now)))) e ∙ ap (λ (k : ℕ). largest 0 (patterns (a .d) (drop k (a .s .now)))) p)
 
-mul-get-u32 : tie.Need-mul-get-u32 Inv-loop μ-loop
-mul-get-u32 c = search needs
-
-add-get-u32 : tie.Need-add-get-u32 Inv-loop μ-loop
-add-get-u32 c = search needs
-
-get-u32-requires : tie.Need-get-u32-requires Inv-loop μ-loop
-get-u32-requires c κs = search needs
-
-larger-requires : tie.Need-larger-requires Inv-loop μ-loop
-larger-requires c κs = search needs
-
-add-i : tie.Need-add-i Inv-loop μ-loop
-add-i c = search needs
-
-loop-less : tie.Need-loop-less Inv-loop μ-loop
-loop-less c = search needs
-
 loop-again : tie.Need-loop-again Inv-loop μ-loop
 loop-again c =
     let l = c .before .before .before .loop in
@@ -65,11 +47,11 @@ largest-at-spec =
     Inv-loop
     μ-loop
     loop-holds
-    mul-get-u32
-    add-get-u32
-    get-u32-requires
-    larger-requires
-    add-i
-    loop-less
+    (λ c. search needs)
+    (λ c. search needs)
+    (λ c κs. search needs)
+    (λ c κs. search needs)
+    (λ c. search needs)
+    (λ c. search needs)
     loop-again
     returns)

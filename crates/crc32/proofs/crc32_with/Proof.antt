@@ -9,15 +9,6 @@ use borrow.Author.Needs.{needs}
 use Rattle.crc32.proofs.crc32_with.Statement.{statement}
 use Rattle.crc32.proofs.crc32_with.Tie as tie
 
-start-requires : tie.Need-start-requires
-start-requires c κs = search needs
-
-update-requires : tie.Need-update-requires
-update-requires c κs = search needs
-
-finish-requires : tie.Need-finish-requires
-finish-requires c κs = search needs
-
 returns : tie.Need-returns
 unfolding crcOf
 returns c =
@@ -26,4 +17,4 @@ returns c =
     ∙ ap (λ (x : ℕ). bitXor x allOnes) (c .before .update .ensures ∙ ap (λ (x : ℕ). bytesIn x bytes) (c .before .before .start .ensures))
 
 pub crc32-with-spec : {M : Type 1} → statement M
-crc32-with-spec = tie.close (tie.spec start-requires update-requires finish-requires returns)
+crc32-with-spec = tie.close (tie.spec (λ c κs. search needs) (λ c κs. search needs) (λ c κs. search needs) returns)

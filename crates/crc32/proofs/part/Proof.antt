@@ -11,30 +11,6 @@ use borrow.Author.Needs.{needs}
 use Rattle.crc32.proofs.part.Statement.{statement}
 use Rattle.crc32.proofs.part.Tie as tie
 
-update-requires : tie.Need-update-requires
-update-requires c κs = search needs
-
-returns : tie.Need-returns
-returns c = search needs
-
-update-requires-2 : tie.Need-update-requires-2
-update-requires-2 c κs = search needs
-
-returns-2 : tie.Need-returns-2
-returns-2 c = search needs
-
-sub-long : tie.Need-sub-long
-sub-long c = search needs
-
-part-long-start : tie.Need-part-long-start
-part-long-start c = search needs
-
-part-long-end : tie.Need-part-long-end
-part-long-end c = search needs
-
-long-requires : tie.Need-long-requires
-long-requires c κs = search needs
-
 returns-3 : tie.Need-returns-3
 returns-3 c =
     let a = c .before .before .before .before .before .args in
@@ -45,12 +21,12 @@ pub part-spec : {M : Type 1} → statement M
 part-spec =
     tie.close
     (tie.spec
-    update-requires
-    returns
-    update-requires-2
-    returns-2
-    sub-long
-    part-long-start
-    part-long-end
-    long-requires
+    (λ c κs. search needs)
+    (λ c. search needs)
+    (λ c κs. search needs)
+    (λ c. search needs)
+    (λ c. search needs)
+    (λ c. search needs)
+    (λ c. search needs)
+    (λ c κs. search needs)
     returns-3)

@@ -23,45 +23,6 @@ loop-holds c =
     let a = c .args in
     (search needs, c .pre .0, λ step r x. ap (λ (k : ℕ). run step (folded step x 0 (now (a .v))) (drop k (now (a .s)))) (add-zero (a .at)))
 
-add-v : tie.Need-add-v Inv-loop μ-loop
-add-v c = search needs
-
-shared-slice-read-v : tie.Need-shared-slice-read-v Inv-loop μ-loop
-shared-slice-read-v c = search needs
-
-add-v-2 : tie.Need-add-v-2 Inv-loop μ-loop
-add-v-2 c = search needs
-
-element-copy-out-v : tie.Need-element-copy-out-v Inv-loop μ-loop
-element-copy-out-v c = search needs
-
-add-v-3 : tie.Need-add-v-3 Inv-loop μ-loop
-add-v-3 c = search needs
-
-element-copy-out-v-2 : tie.Need-element-copy-out-v-2 Inv-loop μ-loop
-element-copy-out-v-2 c = search needs
-
-add-v-4 : tie.Need-add-v-4 Inv-loop μ-loop
-add-v-4 c = search needs
-
-element-copy-out-v-3 : tie.Need-element-copy-out-v-3 Inv-loop μ-loop
-element-copy-out-v-3 c = search needs
-
-element-copy-out-v-4 : tie.Need-element-copy-out-v-4 Inv-loop μ-loop
-element-copy-out-v-4 c = search needs
-
-add-v-5 : tie.Need-add-v-5 Inv-loop μ-loop
-add-v-5 c = search needs
-
-element-write-v : tie.Need-element-write-v Inv-loop μ-loop
-element-write-v c = search needs
-
-add-j : tie.Need-add-j Inv-loop μ-loop
-add-j c = search needs
-
-loop-less : tie.Need-loop-less Inv-loop μ-loop
-loop-less c = search needs
-
 loop-again : tie.Need-loop-again Inv-loop μ-loop
 loop-again c =
     let l = c .before .before .before .before .before .before .loop in
@@ -86,18 +47,18 @@ block-spec =
     Inv-loop
     μ-loop
     loop-holds
-    add-v
-    shared-slice-read-v
-    add-v-2
-    element-copy-out-v
-    add-v-3
-    element-copy-out-v-2
-    add-v-4
-    element-copy-out-v-3
-    element-copy-out-v-4
-    add-v-5
-    element-write-v
-    add-j
-    loop-less
+    (λ c. search needs)
+    (λ c. search needs)
+    (λ c. search needs)
+    (λ c. search needs)
+    (λ c. search needs)
+    (λ c. search needs)
+    (λ c. search needs)
+    (λ c. search needs)
+    (λ c. search needs)
+    (λ c. search needs)
+    (λ c. search needs)
+    (λ c. search needs)
+    (λ c. search needs)
     loop-again
     returns)

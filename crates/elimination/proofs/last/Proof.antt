@@ -22,42 +22,6 @@ abbrev μ-loop : tie.MeasureT-loop
 loop-holds : tie.Need-loop-holds Inv-loop μ-loop
 loop-holds c = (search needs, c .pre .1 .1, λ k h. absurd (omega arith))
 
-add-out : tie.Need-add-out Inv-loop μ-loop
-add-out c = search needs
-
-shared-slice-read-out : tie.Need-shared-slice-read-out Inv-loop μ-loop
-shared-slice-read-out c = search needs
-
-add-out-2 : tie.Need-add-out-2 Inv-loop μ-loop
-add-out-2 c = search needs
-
-element-copy-out-out : tie.Need-element-copy-out-out Inv-loop μ-loop
-element-copy-out-out c = search needs
-
-add-out-3 : tie.Need-add-out-3 Inv-loop μ-loop
-add-out-3 c = search needs
-
-element-copy-out-out-2 : tie.Need-element-copy-out-out-2 Inv-loop μ-loop
-element-copy-out-out-2 c = search needs
-
-add-out-4 : tie.Need-add-out-4 Inv-loop μ-loop
-add-out-4 c = search needs
-
-element-copy-out-out-3 : tie.Need-element-copy-out-out-3 Inv-loop μ-loop
-element-copy-out-out-3 c = search needs
-
-element-copy-out-out-4 : tie.Need-element-copy-out-out-4 Inv-loop μ-loop
-element-copy-out-out-4 c = search needs
-
-element-write-out : tie.Need-element-write-out Inv-loop μ-loop
-element-write-out c = search needs
-
-add-j : tie.Need-add-j Inv-loop μ-loop
-add-j c = search needs
-
-loop-less : tie.Need-loop-less Inv-loop μ-loop
-loop-less c = search needs
-
 loop-again : tie.Need-loop-again Inv-loop μ-loop
 loop-again c =
     let l = c .before .before .before .before .before .before .loop in
@@ -79,17 +43,17 @@ last-spec =
     Inv-loop
     μ-loop
     loop-holds
-    add-out
-    shared-slice-read-out
-    add-out-2
-    element-copy-out-out
-    add-out-3
-    element-copy-out-out-2
-    add-out-4
-    element-copy-out-out-3
-    element-copy-out-out-4
-    element-write-out
-    add-j
-    loop-less
+    (λ c. search needs)
+    (λ c. search needs)
+    (λ c. search needs)
+    (λ c. search needs)
+    (λ c. search needs)
+    (λ c. search needs)
+    (λ c. search needs)
+    (λ c. search needs)
+    (λ c. search needs)
+    (λ c. search needs)
+    (λ c. search needs)
+    (λ c. search needs)
     loop-again
     returns)

@@ -8,12 +8,6 @@ use borrow.Author.Needs.{needs}
 use Rattle.elimination.proofs.onward.Statement.{statement}
 use Rattle.elimination.proofs.onward.Tie as tie
 
-block-requires : tie.Need-block-requires
-block-requires c κs = search needs
-
-keep-requires : tie.Need-keep-requires
-keep-requires c κs = search needs
-
 returns : tie.Need-returns
 returns c =
     let b = c .before .before .block in
@@ -22,4 +16,4 @@ returns c =
     (c .keep .ensures .0, λ step r x st. stands-kept step r (a .n) x (now (a .v)) (b .last .0) (c .keep .last .0) (drop (a .at) s) (drop (a .at + a .n) s) (b .ensures .1 step r) (c .keep .ensures .1) st)
 
 pub onward-spec : {M : Type 1} → statement M
-onward-spec = tie.close (tie.spec block-requires keep-requires returns)
+onward-spec = tie.close (tie.spec (λ c κs. search needs) (λ c κs. search needs) returns)

@@ -12,18 +12,6 @@ use borrow.Author.Needs.{needs}
 use Rattle.elimination.proofs.start.Statement.{statement}
 use Rattle.elimination.proofs.start.Tie as tie
 
-element-write-v : tie.Need-element-write-v
-element-write-v c = search needs
-
-element-write-v-2 : tie.Need-element-write-v-2
-element-write-v-2 c = search needs
-
-element-write-v-3 : tie.Need-element-write-v-3
-element-write-v-3 c = search needs
-
-element-write-v-4 : tie.Need-element-write-v-4
-element-write-v-4 c = search needs
-
 returns : tie.Need-returns
 returns c =
     let a = c .args in
@@ -61,4 +49,4 @@ returns c =
 pub start-spec : {M : Type 1} → statement M
 start-spec =
     tie.close
-    (tie.spec element-write-v element-write-v-2 element-write-v-3 element-write-v-4 returns)
+    (tie.spec (λ c. search needs) (λ c. search needs) (λ c. search needs) (λ c. search needs) returns)

@@ -6,18 +6,12 @@ use borrow.Author.Needs.{needs}
 use Rattle.encoder.proofs.check_caption.Statement.{statement}
 use Rattle.encoder.proofs.check_caption.Tie as tie
 
-is-utf8-requires : tie.Need-is-utf8-requires
-is-utf8-requires c κs = search needs
-
 returns : tie.Need-returns
 returns c = simp (sym (c .before .is-utf8 .ensures) ∙ not-true _ (c .if1 .taken))
-
-record-length-requires : tie.Need-record-length-requires
-record-length-requires c κs = search needs
 
 returns-2 : tie.Need-returns-2
 returns-2 c =
     ap Measures.Length (c .record-length .ensures) ∙ sym (simp (sym (c .before .before .is-utf8 .ensures) ∙ not-false _ (c .before .if1 .left)))
 
 pub check-caption-spec : {M : Type 1} → statement M
-check-caption-spec = tie.close (tie.spec is-utf8-requires returns record-length-requires returns-2)
+check-caption-spec = tie.close (tie.spec (λ c κs. search needs) returns (λ c κs. search needs) returns-2)

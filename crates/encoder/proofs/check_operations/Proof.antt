@@ -6,9 +6,9 @@ use denote.Ref.{now}
 use mathlib.Core.List.{List}
 use lib.ListN.{length, drop}
 use Rattle.refusal.specs.Refusal.{sizeTold}
-use Rattle.refusal.proofs.Results.{measured-not}
+use Rattle.refusal.proofs.Results.{sized-not}
 use Rattle.meaning.specs.Encoder.{Asked, encodeOperation}
-use Rattle.encoder.specs.Requests.{askedAt, taken, taggedLength}
+use Rattle.encoder.specs.Requests.{askedAt, taken, taggedLength, mostTagged}
 use Rattle.encoder.proofs.RunLaws.{put-at, read-at, asked-at, vector-there, rest-is, measured-end, measured-refused, Measuring, measuring-start, measuring-next}
 use borrow.Author.Needs.{needs}
 use Rattle.encoder.proofs.check_operations.Statement.{statement}
@@ -31,7 +31,7 @@ here c =
     ∙ ap₂ (λ (cs : List ℕ) (o : Asked). sizeTold taggedLength (encodeOperation (a .config) cs (now (a .captions)) o)) (rest-is (l .at) (now (a .coordinates))) (asked-at (now (a .operations)) (l .k) (p .result) (p .ensures))
 
 turn : (c : tie.After-m Inv-loop μ-loop)
-    → (c .m .given .0 .0 ≤ 32781) × Measuring (c .before .before .before .before .before .before .before .before .before .before .before .args .config) (now (c .before .before .before .before .before .before .before .before .before .before .before .args .operations)) (now (c .before .before .before .before .before .before .before .before .before .before .before .args .coordinates)) (now (c .before .before .before .before .before .before .before .before .before .before .before .args .captions))
+    → (c .m .given .0 .0 ≤ mostTagged) × Measuring (c .before .before .before .before .before .before .before .before .before .before .before .args .config) (now (c .before .before .before .before .before .before .before .before .before .before .before .args .operations)) (now (c .before .before .before .before .before .before .before .before .before .before .before .args .coordinates)) (now (c .before .before .before .before .before .before .before .before .before .before .before .args .captions))
     (c .before .before .before .before .before .before .before .loop .sum + c .m .given .0 .0) (c .before .before .before .before .before .before .before .loop .at + taken (c .before .before .before .before .before .operation-at .result .put) (c .before .before .before .before .before .before .before .before .before .before .before .args .config .dimensions)) (c .before .before .before .before .before .before .before .loop .k + 1)
 turn c =
     let s = c .before .before .before .before .before .before .before .before .before .before .before in
@@ -42,33 +42,6 @@ turn c =
 
 loop-holds : tie.Need-loop-holds Inv-loop μ-loop
 loop-holds c = measuring-start _ _ _ _ (c .before .before .before .pre .1 .1)
-
-operation-at-requires : tie.Need-operation-at-requires Inv-loop μ-loop
-operation-at-requires c κs = search needs
-
-mul-word : tie.Need-mul-word Inv-loop μ-loop
-mul-word c = search needs
-
-add-word : tie.Need-add-word Inv-loop μ-loop
-add-word c = search needs
-
-mul-word-2 : tie.Need-mul-word-2 Inv-loop μ-loop
-mul-word-2 c = search needs
-
-shared-slice-read-word : tie.Need-shared-slice-read-word Inv-loop μ-loop
-shared-slice-read-word c = search needs
-
-mul-check-operation : tie.Need-mul-check-operation Inv-loop μ-loop
-mul-check-operation c = search needs
-
-sub-check-operation : tie.Need-sub-check-operation Inv-loop μ-loop
-sub-check-operation c = omega (arith, c .before .before .before .loop .inv .enough)
-
-part-check-operation-start : tie.Need-part-check-operation-start Inv-loop μ-loop
-part-check-operation-start c = omega (arith, c .before .before .before .loop .inv .enough)
-
-part-check-operation-end : tie.Need-part-check-operation-end Inv-loop μ-loop
-part-check-operation-end c = search needs
 
 check-operation-requires : tie.Need-check-operation-requires Inv-loop μ-loop
 check-operation-requires c κs =
@@ -86,33 +59,15 @@ check-operation-requires c κs =
       ),
     )
 
-enum-known-m : tie.Need-enum-known-m Inv-loop μ-loop
-enum-known-m c = search needs
-
-enum-known-r : tie.Need-enum-known-r Inv-loop μ-loop
-enum-known-r c = search needs
-
 returns : tie.Need-returns Inv-loop μ-loop
 returns c =
     let s = c .before .before .before .before .before .before .before .before .before .before .before .before in
     let l = c .before .before .before .before .before .before .before .before .loop in
-    let no = measured-not taggedLength _ (c .before .r .given .0 .0) (sym (here (c .before .before .before)) ∙ c .before .r .given .1) in
+    let no = sized-not taggedLength _ (c .before .r .given .0 .0) (sym (here (c .before .before .before)) ∙ c .before .r .given .1) in
     sym (measured-refused (s .args .config) (now (s .args .operations)) (now (s .args .coordinates)) (now (s .args .captions)) (l .sum) (l .at) (l .k) (c .before .before .before .before .before .before .before .loop-test .taken) _ no) ∙ l .inv .run
 
 add-sum : tie.Need-add-sum Inv-loop μ-loop
 add-sum c = let l = c .before .before .before .before .before .before .before .before .loop in omega (arith, turn (c .before) .0, l .inv .few, l .inv .within, c .before .before .before .before .before .before .before .before .before .before .before .before .pre .1 .0)
-
-taken-requires : tie.Need-taken-requires Inv-loop μ-loop
-taken-requires c κs = search needs
-
-add-at : tie.Need-add-at Inv-loop μ-loop
-add-at c = omega (arith, turn (c .before .before) .1 .enough, c .taken .ensures .0)
-
-add-k : tie.Need-add-k Inv-loop μ-loop
-add-k c = search needs
-
-loop-less : tie.Need-loop-less Inv-loop μ-loop
-loop-less c = search needs
 
 loop-again : tie.Need-loop-again Inv-loop μ-loop
 loop-again c =
@@ -133,23 +88,23 @@ check-operations-spec =
     Inv-loop
     μ-loop
     loop-holds
-    operation-at-requires
-    mul-word
-    add-word
-    mul-word-2
-    shared-slice-read-word
-    mul-check-operation
-    sub-check-operation
-    part-check-operation-start
-    part-check-operation-end
+    (λ c κs. search needs)
+    (λ c. search needs)
+    (λ c. search needs)
+    (λ c. search needs)
+    (λ c. search needs)
+    (λ c. search needs)
+    (λ c. omega (arith, c .before .before .before .loop .inv .enough))
+    (λ c. omega (arith, c .before .before .before .loop .inv .enough))
+    (λ c. search needs)
     check-operation-requires
-    enum-known-m
-    enum-known-r
+    (λ c. search needs)
+    (λ c. search needs)
     returns
     add-sum
-    taken-requires
-    add-at
-    add-k
-    loop-less
+    (λ c κs. search needs)
+    (λ c. omega (arith, turn (c .before .before) .1 .enough, c .taken .ensures .0))
+    (λ c. search needs)
+    (λ c. search needs)
     loop-again
     returns-2)

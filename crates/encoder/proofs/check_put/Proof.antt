@@ -9,7 +9,7 @@ use lib.ListN.{length, take, drop}
 use Rattle.coordinates.specs.Coordinates.{vectorOf, coordinateBytes}
 use Rattle.config.specs.Limits.{maxMetadata}
 use Rattle.refusal.specs.Refusal.{checked, sizeTold}
-use Rattle.refusal.proofs.Results.{checked-is, checked-not}
+use Rattle.refusal.proofs.Inverses.{checked-is}
 use Rattle.meaning.specs.Item.{coordinates}
 use Rattle.encoder.specs.Requests.{taggedLength, captionTold}
 use Rattle.encoder.proofs.CoordinateLaws.{vector-again}
@@ -30,9 +30,6 @@ vector c =
     c .check-bits .ensures ∙ ap (λ (t : Bool). checked (vectorOf t coords)) (c .before .is-cosine .ensures)
     ∙ ap checked (sym (vector-again (a .config) coords (c .before .before .before .before .before .before .before .pre .1 .0) (λ k. c .before .before .before .before .before .before .shared-slice-known .given k .fits)))
 
-caption-limit-requires : tie.Need-caption-limit-requires
-caption-limit-requires c κs = search needs
-
 returns : tie.Need-returns
 returns c =
     let a = c .before .before .before .before .args in
@@ -40,35 +37,8 @@ returns c =
     let long : maxMetadata < n = omega (arith, c .before .caption-limit .ensures, c .if1 .taken) in
     sym (ap (sizeTold taggedLength) (put-long (a .config) (now (a .coordinates)) (now (a .captions)) (a .o .id .0) n (a .o .at) long))
 
-add-end : tie.Need-add-end
-add-end c = search needs
-
 returns-2 : tie.Need-returns-2
 returns-2 c = simp (le-ltb _ _ (short (c .before)), lt-ltb _ _ (c .if2 .taken))
-
-is-cosine-requires : tie.Need-is-cosine-requires
-is-cosine-requires c κs = search needs
-
-check-bits-requires : tie.Need-check-bits-requires
-check-bits-requires c κs = search needs
-
-enum-told : tie.Need-enum-told
-enum-told c = search needs
-
-sub-check-caption : tie.Need-sub-check-caption
-sub-check-caption c = search needs
-
-part-check-caption-start : tie.Need-part-check-caption-start
-part-check-caption-start c = search needs
-
-part-check-caption-end : tie.Need-part-check-caption-end
-part-check-caption-end c = search needs
-
-check-caption-requires : tie.Need-check-caption-requires
-check-caption-requires c κs = search needs
-
-enum-known-r : tie.Need-enum-known-r
-enum-known-r c = search needs
 
 returns-3 : tie.Need-returns-3
 returns-3 c =
@@ -79,29 +49,29 @@ returns-3 c =
     let q : start + n - start ≡ n = omega arith in
     c .check-caption .ensures ∙ ap (λ (k : ℕ). captionTold (length coords) (take k (drop start (now (a .captions))))) q
     ∙ sym (put-caption (a .config) coords (now (a .captions)) (a .o .id .0) n start (short (c .before .before .before .before .before .before .before)) (c .before .before .before .before .before .before .if2 .left)
-    (checked-is _ (sym (vector (c .before .before .before .before)) ∙ c .before .before .enum-told .given .1)))
+    (checked-is _ (vector (c .before .before .before .before)) (c .before .before .enum-told .given .1)))
 
 returns-4 : tie.Need-returns-4
 returns-4 c =
     let a = c .before .before .before .before .before .before .before .before .before .before .args in
     sym (ap (sizeTold taggedLength) (put-vector (a .config) (now (a .coordinates)) (now (a .captions)) (a .o .id .0) (a .o .«caption_length») (a .o .at) (c .before .r .given .0 .0)
-    (short (c .before .before .before .before .before .before)) (c .before .before .before .before .before .if2 .left) (checked-not _ _ (sym (vector (c .before .before .before)) ∙ c .before .r .given .1))))
+    (short (c .before .before .before .before .before .before)) (c .before .before .before .before .before .if2 .left) (checked-is _ (vector (c .before .before .before)) (c .before .r .given .1))))
 
 pub check-put-spec : {M : Type 1} → statement M
 check-put-spec =
     tie.close
     (tie.spec
-    caption-limit-requires
+    (λ c κs. search needs)
     returns
-    add-end
+    (λ c. search needs)
     returns-2
-    is-cosine-requires
-    check-bits-requires
-    enum-told
-    sub-check-caption
-    part-check-caption-start
-    part-check-caption-end
-    check-caption-requires
-    enum-known-r
+    (λ c κs. search needs)
+    (λ c κs. search needs)
+    (λ c. search needs)
+    (λ c. search needs)
+    (λ c. search needs)
+    (λ c. search needs)
+    (λ c κs. search needs)
+    (λ c. search needs)
     returns-3
     returns-4)

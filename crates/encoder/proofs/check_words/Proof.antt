@@ -7,18 +7,6 @@ use borrow.Author.Needs.{needs}
 use Rattle.encoder.proofs.check_words.Statement.{statement}
 use Rattle.encoder.proofs.check_words.Tie as tie
 
-enum-told : tie.Need-enum-told
-enum-told c = search needs
-
-check-single-requires : tie.Need-check-single-requires
-check-single-requires c κs = search needs
-
-enum-told-2 : tie.Need-enum-told-2
-enum-told-2 c = search needs
-
-check-batch-requires : tie.Need-check-batch-requires
-check-batch-requires c κs = search needs
-
 returns : tie.Need-returns
 returns c = c .check-single .ensures ∙ ap (λ (s : Shape). checked (wordsChecked s (c .before .before .before .args .words))) (sym (c .before .enum-told .given .1))
 
@@ -28,4 +16,4 @@ returns-2 c = c .check-batch .ensures ∙ ap (λ (s : Shape). checked (wordsChec
 pub check-words-spec : {M : Type 1} → statement M
 check-words-spec =
     tie.close
-    (tie.spec enum-told check-single-requires enum-told-2 check-batch-requires returns returns-2)
+    (tie.spec (λ c. search needs) (λ c κs. search needs) (λ c. search needs) (λ c κs. search needs) returns returns-2)

@@ -11,7 +11,7 @@ use Rattle.fields.proofs.PlacedLaws.{placed-lent}
 use Rattle.config.specs.Limits.{maxDimensions, maxBatchOperations}
 use Rattle.frames.proofs.Frames.{sealed-payload}
 use Rattle.refusal.specs.declared.Refusal.the-variants.{WrongLength, OutputTooShort, RequestMalformed}
-use Rattle.refusal.proofs.Results.{measured-not}
+use Rattle.refusal.proofs.Results.{sized-not}
 use Rattle.meaning.specs.Encoder.{asked, putCount, taggedBytes, payloadBytes}
 use Rattle.encoder.specs.Requests.{headLength, taggedOf}
 use Rattle.encoder.proofs.RequestLaws.{counting, wrong-coordinates, wrong-operation, sealed-long, sealed-short, sealed-good, Ready, ready, tells-refused, tells-sealed}
@@ -35,9 +35,6 @@ good c =
     let s = c .before .before .before .before .before .before .before .before .before in
     ready _ _ _ _ _ _ _ _ (s .pre .0) (s .pre .1) (enough (c .before .before .before)) (sym (c .before .before .check-operations .ensures) ∙ c .n .given .1)
 
-put-count-requires : tie.Need-put-count-requires
-put-count-requires c κs = search needs
-
 mul-if1 : tie.Need-mul-if1
 mul-if1 c =
     let s = c .before .before .before .before .before in
@@ -57,24 +54,12 @@ check-operations-requires : tie.Need-check-operations-requires
 check-operations-requires c κs =
     let s = c .before .before .before .before .before .before in (s .pre .0, (counting (s .args .shape) (length (now (s .args .operations))) (s .pre .1) .few, enough c))
 
-enum-known-n : tie.Need-enum-known-n
-enum-known-n c = search needs
-
-enum-known-r : tie.Need-enum-known-r
-enum-known-r c = search needs
-
 returns-2 : tie.Need-returns-2
 returns-2 c =
     let a = c .before .before .before .before .before .before .before .before .before .before .args in
     let o = now (a .out) in
     tells-refused _ o (c .before .r .given .0 .0) (wrong-operation (a .shape) (a .config) (a .sequence) (now (a .operations)) (now (a .coordinates)) (now (a .captions)) (length o) (enough (c .before .before .before .before)) (c .before .r .given .0 .0)
-    (measured-not (λ es. length (taggedBytes es)) _ (c .before .r .given .0 .0) (sym (c .before .before .before .check-operations .ensures) ∙ c .before .r .given .1)))
-
-head-requires : tie.Need-head-requires
-head-requires c κs = search needs
-
-sub-if2 : tie.Need-sub-if2
-sub-if2 c = search needs
+    (sized-not (λ es. length (taggedBytes es)) _ (c .before .r .given .0 .0) (sym (c .before .before .before .check-operations .ensures) ∙ c .before .r .given .1)))
 
 returns-3 : tie.Need-returns-3
 returns-3 c =
@@ -82,12 +67,6 @@ returns-3 c =
     let x = good n in
     let o = now (c .before .before .before .before .before .before .before .before .before .before .before .before .args .out) in
     tells-refused _ o WrongLength (x .sealed-is ∙ sealed-long (length o) (payload n) (size n) (x .size) (omega (arith, c .before .head .ensures, c .if2 .taken)))
-
-add-payload : tie.Need-add-payload
-add-payload c = search needs
-
-add-if3 : tie.Need-add-if3
-add-if3 c = search needs
 
 returns-4 : tie.Need-returns-4
 returns-4 c =
@@ -97,30 +76,12 @@ returns-4 c =
     let h = c .before .before .head .ensures in
     tells-refused _ o OutputTooShort (x .sealed-is ∙ sealed-short (length o) (payload n) (size n) (x .size) (omega (arith, h, c .before .if2 .left)) (omega (arith, h, c .if3 .taken)))
 
-sub-write-payload : tie.Need-sub-write-payload
-sub-write-payload c = search needs
-
-part-write-payload-start : tie.Need-part-write-payload-start
-part-write-payload-start c = search needs
-
-part-write-payload-end : tie.Need-part-write-payload-end
-part-write-payload-end c = search needs
-
 write-payload-requires : tie.Need-write-payload-requires
 write-payload-requires c κs =
     let n = c .before .before .before .before .before in
     let x = good n in
     let o = now (c .before .before .before .before .before .before .before .before .before .before .before .before .before .before .args .out) in
     (x .accepted, (c .before .before .before .before .before .before .before .before .before .before .before .before .before .before .pre .1, omega (arith, x .size, mid-len 8 (length o) o (le-refl (length o)), c .before .if3 .left, c .before .before .before .head .ensures)))
-
-seal-requires : tie.Need-seal-requires
-seal-requires c κs = search needs
-
-add-t15 : tie.Need-add-t15
-add-t15 c = search needs
-
-same-length : tie.Need-same-length
-same-length c = search needs
 
 returns-5 : tie.Need-returns-5
 returns-5 c =
@@ -141,24 +102,24 @@ pub encode-operations-spec : {M : Type 1} → statement M
 encode-operations-spec =
     tie.close
     (tie.spec
-    put-count-requires
+    (λ c κs. search needs)
     mul-if1
     returns
     check-operations-requires
-    enum-known-n
-    enum-known-r
+    (λ c. search needs)
+    (λ c. search needs)
     returns-2
-    head-requires
-    sub-if2
+    (λ c κs. search needs)
+    (λ c. search needs)
     returns-3
-    add-payload
-    add-if3
+    (λ c. search needs)
+    (λ c. search needs)
     returns-4
-    sub-write-payload
-    part-write-payload-start
-    part-write-payload-end
+    (λ c. search needs)
+    (λ c. search needs)
+    (λ c. search needs)
     write-payload-requires
-    seal-requires
-    add-t15
-    same-length
+    (λ c κs. search needs)
+    (λ c. search needs)
+    (λ c. search needs)
     returns-5)

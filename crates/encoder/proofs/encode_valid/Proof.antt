@@ -1,9 +1,8 @@
 -- Each test leads where `encodeValid` does.
-use mathlib.Core.Path.{sym, _∙_}
 use denote.Ref.{now}
 use lib.ListN.{length}
 use Rattle.refusal.specs.declared.Refusal.the-variants.{WrongSequence}
-use Rattle.refusal.proofs.Results.{checked-is, checked-not}
+use Rattle.refusal.proofs.Inverses.{checked-is}
 use Rattle.encoder.proofs.RequestLaws.{sequence-zero, wrong-words, words-good, tells-refused, tells-same}
 use borrow.Author.Needs.{needs}
 use Rattle.encoder.proofs.encode_valid.Statement.{statement}
@@ -15,33 +14,21 @@ returns c =
     let o = now (a .out) in
     tells-refused _ o WrongSequence (sequence-zero (a .shape) (a .config) (a .sequence) (now (a .operations)) (now (a .coordinates)) (now (a .captions)) (length o) (c .if1 .taken))
 
-check-words-requires : tie.Need-check-words-requires
-check-words-requires c κs = search needs
-
-enum-told : tie.Need-enum-told
-enum-told c = search needs
-
 encode-operations-requires : tie.Need-encode-operations-requires
-encode-operations-requires c κs = (c .before .before .before .before .before .before .before .before .before .pre, checked-is _ (sym (c .before .before .before .check-words .ensures) ∙ c .before .enum-told .given .1))
-
-enum-known-r : tie.Need-enum-known-r
-enum-known-r c = search needs
-
-same-length : tie.Need-same-length
-same-length c = search needs
+encode-operations-requires c κs = (c .before .before .before .before .before .before .before .before .before .pre, checked-is _ (c .before .before .before .check-words .ensures) (c .before .enum-told .given .1))
 
 returns-2 : tie.Need-returns-2
 returns-2 c =
     let a = c .before .before .before .before .before .before .before .before .before .before .before .before .args in
     let o = now (a .out) in
-    let good = checked-is _ (sym (c .before .before .before .before .before .before .check-words .ensures) ∙ c .before .before .before .before .enum-told .given .1) in
+    let good = checked-is _ (c .before .before .before .before .before .before .check-words .ensures) (c .before .before .before .before .enum-told .given .1) in
     tells-same _ _ o _ _ (words-good (a .shape) (a .config) (a .sequence) (now (a .operations)) (now (a .coordinates)) (now (a .captions)) (length o) (c .before .before .before .before .before .before .before .if1 .left) good) (c .before .before .encode-operations .ensures)
 
 returns-3 : tie.Need-returns-3
 returns-3 c =
     let a = c .before .before .before .before .before .before .before .before .before .args in
     let o = now (a .out) in
-    let bad = checked-not _ _ (sym (c .before .before .before .check-words .ensures) ∙ c .before .r .given .1) in
+    let bad = checked-is _ (c .before .before .before .check-words .ensures) (c .before .r .given .1) in
     tells-refused _ o (c .before .r .given .0 .0) (wrong-words (a .shape) (a .config) (a .sequence) (now (a .operations)) (now (a .coordinates)) (now (a .captions)) (length o) (c .before .before .before .before .if1 .left) (c .before .r .given .0 .0) bad)
 
 pub encode-valid-spec : {M : Type 1} → statement M
@@ -49,10 +36,10 @@ encode-valid-spec =
     tie.close
     (tie.spec
     returns
-    check-words-requires
-    enum-told
+    (λ c κs. search needs)
+    (λ c. search needs)
     encode-operations-requires
-    enum-known-r
-    same-length
+    (λ c. search needs)
+    (λ c. search needs)
     returns-2
     returns-3)

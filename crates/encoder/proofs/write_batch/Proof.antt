@@ -25,12 +25,6 @@ tagged c = let a = c .args in taggedOf (a .config) (now (a .operations)) (now (a
 room : (c : tie.Start) → 13 + length (taggedBytes (tagged c)) ≤ length (now (c .args .out))
 room c = omega (arith, c .pre .1 .1, length-payload Batch (c .args .sequence) (tagged c) tt)
 
-write-opcode-requires : tie.Need-write-opcode-requires
-write-opcode-requires c κs = let h = room (c .before .before .before .before .before) in omega arith
-
-cast-put-u32 : tie.Need-cast-put-u32
-cast-put-u32 c = search needs
-
 put-u32-requires : tie.Need-put-u32-requires
 put-u32-requires c κs = let h = room (c .before .before .before .before .before .before .before .before .before) in omega (arith, c .before .before .before .write-opcode .kept .0)
 
@@ -40,17 +34,11 @@ sub-write-operations c = let h = room (c .before .before .before .before .before
 part-write-operations-start : tie.Need-part-write-operations-start
 part-write-operations-start c = let h = room (c .before .before .before .before .before .before .before .before .before .before .before .before) in omega (arith, c .before .before .before .before .before .before .write-opcode .kept .0, c .before .before .put-u32 .kept .0)
 
-part-write-operations-end : tie.Need-part-write-operations-end
-part-write-operations-end c = search needs
-
 write-operations-requires : tie.Need-write-operations-requires
 write-operations-requires c κs =
     let h = room (c .before .before .before .before .before .before .before .before .before .before .before .before .before) in
     let two = c .before .before .before .put-u32 .last .0 in
     (c .before .before .before .before .before .before .before .before .before .before .before .before .before .pre .0, omega (arith, mid-len 13 (length two) two (le-refl (length two)), c .before .before .before .before .before .before .before .write-opcode .kept .0, c .before .before .before .put-u32 .kept .0))
-
-same-length : tie.Need-same-length
-same-length c = search needs
 
 returns : tie.Need-returns
 returns c =
@@ -77,12 +65,12 @@ pub write-batch-spec : {M : Type 1} → statement M
 write-batch-spec =
     tie.close
     (tie.spec
-    write-opcode-requires
-    cast-put-u32
+    (λ c κs. let h = room (c .before .before .before .before .before) in omega arith)
+    (λ c. search needs)
     put-u32-requires
     sub-write-operations
     part-write-operations-start
-    part-write-operations-end
+    (λ c. search needs)
     write-operations-requires
-    same-length
+    (λ c. search needs)
     returns)

@@ -23,23 +23,8 @@ abbrev μ-loop : tie.MeasureT-loop
 loop-holds : tie.Need-loop-holds Inv-loop μ-loop
 loop-holds c = let o = now (c .before .before .args .out) in (search needs, refl, sym (ap (λ (l : List ℕ). placed 0 l o) coordinates-none ∙ placed-none 0 o))
 
-mul-put-u32 : tie.Need-mul-put-u32 Inv-loop μ-loop
-mul-put-u32 c = search needs
-
-mul-put-u32-2 : tie.Need-mul-put-u32-2 Inv-loop μ-loop
-mul-put-u32-2 c = search needs
-
-shared-slice-read-put-u32 : tie.Need-shared-slice-read-put-u32 Inv-loop μ-loop
-shared-slice-read-put-u32 c = search needs
-
 put-u32-requires : tie.Need-put-u32-requires Inv-loop μ-loop
 put-u32-requires c κs = omega (arith, c .before .before .before .loop .inv .1, c .before .before .loop-test .taken, c .before .before .before .before .before .before .pre)
-
-add-i : tie.Need-add-i Inv-loop μ-loop
-add-i c = search needs
-
-loop-less : tie.Need-loop-less Inv-loop μ-loop
-loop-less c = search needs
 
 loop-again : tie.Need-loop-again Inv-loop μ-loop
 loop-again c =
@@ -55,9 +40,6 @@ loop-again c =
           ∙ ap (λ (b : List ℕ). placed 0 b o) (coordinates-more cs (l .i) h),
     )
 
-same-length : tie.Need-same-length Inv-loop μ-loop
-same-length c = c .before .loop .inv .1
-
 returns : tie.Need-returns Inv-loop μ-loop
 returns c =
     let a = c .before .before .before .before .args in
@@ -72,12 +54,12 @@ write-coordinates-spec =
     Inv-loop
     μ-loop
     loop-holds
-    mul-put-u32
-    mul-put-u32-2
-    shared-slice-read-put-u32
+    (λ c. search needs)
+    (λ c. search needs)
+    (λ c. search needs)
     put-u32-requires
-    add-i
-    loop-less
+    (λ c. search needs)
+    (λ c. search needs)
     loop-again
-    same-length
+    (λ c. c .before .loop .inv .1)
     returns)

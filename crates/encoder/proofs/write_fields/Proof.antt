@@ -7,7 +7,7 @@ use mathlib.Core.List.{List}
 use lib.ListN.{length, take, drop}
 use lib.Seq.{length-take-le}
 use Rattle.fields.specs.Fields.{part}
-use Rattle.layout.specs.Layout.{itemLength}
+use Rattle.layout.specs.Layout.{itemLength, idLength}
 use Rattle.fields.specs.Placed.{placed}
 use Rattle.fields.proofs.Parts.{length-part}
 use Rattle.meaning.specs.Encoder.{putFields}
@@ -38,23 +38,8 @@ vector-size c = length-take-le _ _ (fits c .vector)
 
 size : (c : tie.Then1)
     → length (fieldsOf (c .before .before .before .before .before .args .config .dimensions) (now (c .before .before .before .before .before .args .coordinates)) (now (c .before .before .before .before .before .args .captions)) (c .before .before .before .before .before .args .o))
-    ≡ 8 + itemLength (c .before .before .before .before .before .args .config .dimensions) (c .before .before .before .before .before .args .o .«caption_length»)
+    ≡ idLength + itemLength (c .before .before .before .before .before .args .config .dimensions) (c .before .before .before .before .before .args .o .«caption_length»)
 size c = let a = c .before .before .before .before .before .args in put-size (a .config .dimensions) (now (a .coordinates)) (now (a .captions)) (a .o) (c .if1 .taken) (fits c)
-
-add-stop : tie.Need-add-stop
-add-stop c = omega (arith, fits c .inside)
-
-slice-aggregate-write-put : tie.Need-slice-aggregate-write-put
-slice-aggregate-write-put c = sym (length-take-le _ _ (fits (c .before .before) .vector))
-
-sub-write-put : tie.Need-sub-write-put
-sub-write-put c = search needs
-
-part-write-put-start : tie.Need-part-write-put-start
-part-write-put-start c = search needs
-
-part-write-put-end : tie.Need-part-write-put-end
-part-write-put-end c = fits (c .before .before) .inside
 
 write-put-requires : tie.Need-write-put-requires
 write-put-requires c κs =
@@ -66,9 +51,6 @@ item-length-requires c κs = let t = c .before .before .before .before .before .
 
 add-result : tie.Need-add-result
 add-result c = let t = c .before .before .before .before .before .before .before in omega (arith, c .item-length .ensures, fits t .short, c .before .before .before .before .before .before .before .before .before .before .before .before .pre .0)
-
-same-length : tie.Need-same-length
-same-length c = search needs
 
 returns : tie.Need-returns
 returns c =
@@ -88,9 +70,6 @@ put-u64-requires c κs =
     let a = c .before .before .before .before .before .before .args in
     omega (arith, delete-size (a .config .dimensions) (now (a .coordinates)) (now (a .captions)) (a .o) (c .before .if1 .left), c .before .before .before .before .before .before .pre .1 .1)
 
-same-length-2 : tie.Need-same-length-2
-same-length-2 c = search needs
-
 returns-2 : tie.Need-returns-2
 returns-2 c =
     let a = c .before .before .before .before .before .before .before .before .before .args in
@@ -103,16 +82,16 @@ pub write-fields-spec : {M : Type 1} → statement M
 write-fields-spec =
     tie.close
     (tie.spec
-    add-stop
-    slice-aggregate-write-put
-    sub-write-put
-    part-write-put-start
-    part-write-put-end
+    (λ c. omega (arith, fits c .inside))
+    (λ c. sym (length-take-le _ _ (fits (c .before .before) .vector)))
+    (λ c. search needs)
+    (λ c. search needs)
+    (λ c. fits (c .before .before) .inside)
     write-put-requires
     item-length-requires
     add-result
-    same-length
+    (λ c. search needs)
     returns
     put-u64-requires
-    same-length-2
+    (λ c. search needs)
     returns-2)

@@ -17,32 +17,11 @@ use borrow.Author.Needs.{needs}
 use Rattle.encoder.proofs.write_operation.Statement.{statement}
 use Rattle.encoder.proofs.write_operation.Tie as tie
 
-tag-requires : tie.Need-tag-requires
-tag-requires c κs = search needs
-
-put-u8-requires : tie.Need-put-u8-requires
-put-u8-requires c κs = search needs
-
-sub-write-fields : tie.Need-sub-write-fields
-sub-write-fields c = search needs
-
-part-write-fields-start : tie.Need-part-write-fields-start
-part-write-fields-start c = search needs
-
-part-write-fields-end : tie.Need-part-write-fields-end
-part-write-fields-end c = search needs
-
 write-fields-requires : tie.Need-write-fields-requires
 write-fields-requires c κs =
     let s = c .before .before .before .before .before .before .before .before .before in
     let one = c .before .before .before .put-u8 .last .0 in
     (s .pre .0, (s .pre .1 .0, omega (arith, s .pre .1 .1, mid-len 1 (length one) one (le-refl (length one)), c .before .before .before .put-u8 .kept .0)))
-
-add-result : tie.Need-add-result
-add-result c = search needs
-
-same-length : tie.Need-same-length
-same-length c = search needs
 
 returns : tie.Need-returns
 returns c =
@@ -64,12 +43,12 @@ pub write-operation-spec : {M : Type 1} → statement M
 write-operation-spec =
     tie.close
     (tie.spec
-    tag-requires
-    put-u8-requires
-    sub-write-fields
-    part-write-fields-start
-    part-write-fields-end
+    (λ c κs. search needs)
+    (λ c κs. search needs)
+    (λ c. search needs)
+    (λ c. search needs)
+    (λ c. search needs)
     write-fields-requires
-    add-result
-    same-length
+    (λ c. search needs)
+    (λ c. search needs)
     returns)

@@ -37,30 +37,6 @@ wrote c =
 loop-holds : tie.Need-loop-holds Inv-loop μ-loop
 loop-holds c = left-start _ _ _ _ _ (c .before .before .before .before .pre .1) (c .before .before .before .before .pre .0)
 
-operation-at-requires : tie.Need-operation-at-requires Inv-loop μ-loop
-operation-at-requires c κs = search needs
-
-sub-write-operation : tie.Need-sub-write-operation Inv-loop μ-loop
-sub-write-operation c = let x = next c in omega (arith, x .room)
-
-part-write-operation-start : tie.Need-part-write-operation-start Inv-loop μ-loop
-part-write-operation-start c = let x = next c in omega (arith, x .room)
-
-part-write-operation-end : tie.Need-part-write-operation-end Inv-loop μ-loop
-part-write-operation-end c = search needs
-
-mul-write-operation : tie.Need-mul-write-operation Inv-loop μ-loop
-mul-write-operation c = let x = next (c .before) in omega (arith, x .from-inside)
-
-sub-write-operation-2 : tie.Need-sub-write-operation-2 Inv-loop μ-loop
-sub-write-operation-2 c = let x = next (c .before) in omega (arith, x .from-inside)
-
-part-write-operation-start-2 : tie.Need-part-write-operation-start-2 Inv-loop μ-loop
-part-write-operation-start-2 c = let x = next (c .before) in x .from-inside
-
-part-write-operation-end-2 : tie.Need-part-write-operation-end-2 Inv-loop μ-loop
-part-write-operation-end-2 c = search needs
-
 write-operation-requires : tie.Need-write-operation-requires Inv-loop μ-loop
 write-operation-requires c κs =
     let s = c .before .before .before .before .before .before .before .before .before in
@@ -81,18 +57,6 @@ write-operation-requires c κs =
 
 add-at : tie.Need-add-at Inv-loop μ-loop
 add-at c = let x = next (c .before .before .before .before .before) in omega (arith, x .room, x .kept, wrote (c .before .before))
-
-taken-requires : tie.Need-taken-requires Inv-loop μ-loop
-taken-requires c κs = search needs
-
-add-from : tie.Need-add-from Inv-loop μ-loop
-add-from c = search needs
-
-add-k : tie.Need-add-k Inv-loop μ-loop
-add-k c = search needs
-
-loop-less : tie.Need-loop-less Inv-loop μ-loop
-loop-less c = search needs
 
 loop-again : tie.Need-loop-again Inv-loop μ-loop
 loop-again c =
@@ -124,20 +88,20 @@ write-operations-spec =
     Inv-loop
     μ-loop
     loop-holds
-    operation-at-requires
-    sub-write-operation
-    part-write-operation-start
-    part-write-operation-end
-    mul-write-operation
-    sub-write-operation-2
-    part-write-operation-start-2
-    part-write-operation-end-2
+    (λ c κs. search needs)
+    (λ c. let x = next c in omega (arith, x .room))
+    (λ c. let x = next c in omega (arith, x .room))
+    (λ c. search needs)
+    (λ c. let x = next (c .before) in omega (arith, x .from-inside))
+    (λ c. let x = next (c .before) in omega (arith, x .from-inside))
+    (λ c. let x = next (c .before) in x .from-inside)
+    (λ c. search needs)
     write-operation-requires
     add-at
-    taken-requires
-    add-from
-    add-k
-    loop-less
+    (λ c κs. search needs)
+    (λ c. search needs)
+    (λ c. search needs)
+    (λ c. search needs)
     loop-again
     same-length
     returns)

@@ -15,9 +15,6 @@ use borrow.Author.Needs.{needs}
 use Rattle.encoder.proofs.write_payload.Statement.{statement}
 use Rattle.encoder.proofs.write_payload.Tie as tie
 
-enum-told : tie.Need-enum-told
-enum-told c = search needs
-
 write-single-requires : tie.Need-write-single-requires
 write-single-requires c κs =
     let s = c .before .before .before .before .before .before .before in
@@ -26,9 +23,6 @@ write-single-requires c κs =
     let e = c .before .enum-told .given .1 in
     let k = counting Single (length words) (subst (λ (x : Shape). wordsChecked x (length words) ≡ answer tt) e (s .pre .1 .0)) in
     (s .pre .0, (omega (arith, k .count, k .even), subst (λ (x : Shape). length (payloadBytes x (a .sequence) (taggedOf (a .config) words (now (a .coordinates)) (now (a .captions)))) ≤ length (now (a .out))) e (s .pre .1 .1)))
-
-enum-told-2 : tie.Need-enum-told-2
-enum-told-2 c = search needs
 
 write-batch-requires : tie.Need-write-batch-requires
 write-batch-requires c κs =
@@ -39,17 +33,11 @@ write-batch-requires c κs =
     let k = counting Batch (length words) (subst (λ (x : Shape). wordsChecked x (length words) ≡ answer tt) e (s .pre .1 .0)) in
     (s .pre .0, (k .few, subst (λ (x : Shape). length (payloadBytes x (a .sequence) (taggedOf (a .config) words (now (a .coordinates)) (now (a .captions)))) ≤ length (now (a .out))) e (s .pre .1 .1)))
 
-same-length : tie.Need-same-length
-same-length c = search needs
-
 returns : tie.Need-returns
 returns c =
     let a = c .before .before .before .before .before .before .before .before .before .before .args in
     c .before .before .write-single .ensures
     ∙ ap (λ (x : Shape). placed 0 (payloadBytes x (a .sequence) (taggedOf (a .config) (now (a .operations)) (now (a .coordinates)) (now (a .captions)))) (now (a .out))) (sym (c .before .before .before .before .enum-told .given .1))
-
-same-length-2 : tie.Need-same-length-2
-same-length-2 c = search needs
 
 returns-2 : tie.Need-returns-2
 returns-2 c =
@@ -61,11 +49,11 @@ pub write-payload-spec : {M : Type 1} → statement M
 write-payload-spec =
     tie.close
     (tie.spec
-    enum-told
+    (λ c. search needs)
     write-single-requires
-    enum-told-2
+    (λ c. search needs)
     write-batch-requires
-    same-length
+    (λ c. search needs)
     returns
-    same-length-2
+    (λ c. search needs)
     returns-2)

@@ -16,51 +16,6 @@ use borrow.Author.Needs.{needs}
 use Rattle.encoder.proofs.write_put.Statement.{statement}
 use Rattle.encoder.proofs.write_put.Tie as tie
 
-put-u64-requires : tie.Need-put-u64-requires
-put-u64-requires c κs = search needs
-
-sub-write-coordinates : tie.Need-sub-write-coordinates
-sub-write-coordinates c = search needs
-
-part-write-coordinates-start : tie.Need-part-write-coordinates-start
-part-write-coordinates-start c = search needs
-
-part-write-coordinates-end : tie.Need-part-write-coordinates-end
-part-write-coordinates-end c = search needs
-
-write-coordinates-requires : tie.Need-write-coordinates-requires
-write-coordinates-requires c κs = search needs
-
-mul-at : tie.Need-mul-at
-mul-at c = search needs
-
-add-at : tie.Need-add-at
-add-at c = search needs
-
-cast-put-u32 : tie.Need-cast-put-u32
-cast-put-u32 c = search needs
-
-put-u32-requires : tie.Need-put-u32-requires
-put-u32-requires c κs = search needs
-
-add-rest : tie.Need-add-rest
-add-rest c = search needs
-
-sub-copy : tie.Need-sub-copy
-sub-copy c = search needs
-
-part-copy-start : tie.Need-part-copy-start
-part-copy-start c = search needs
-
-part-copy-end : tie.Need-part-copy-end
-part-copy-end c = search needs
-
-copy-requires : tie.Need-copy-requires
-copy-requires c κs = search needs
-
-same-length : tie.Need-same-length
-same-length c = search needs
-
 returns : tie.Need-returns
 returns c =
     let s = c .before .before .before .before .before .before .before .before .before .before .before .before .before .before .before .before .before .before .before in
@@ -93,19 +48,19 @@ pub write-put-spec : {M : Type 1} → statement M
 write-put-spec =
     tie.close
     (tie.spec
-    put-u64-requires
-    sub-write-coordinates
-    part-write-coordinates-start
-    part-write-coordinates-end
-    write-coordinates-requires
-    mul-at
-    add-at
-    cast-put-u32
-    put-u32-requires
-    add-rest
-    sub-copy
-    part-copy-start
-    part-copy-end
-    copy-requires
-    same-length
+    (λ c κs. search needs)
+    (λ c. search needs)
+    (λ c. search needs)
+    (λ c. search needs)
+    (λ c κs. search needs)
+    (λ c. search needs)
+    (λ c. search needs)
+    (λ c. search needs)
+    (λ c κs. search needs)
+    (λ c. search needs)
+    (λ c. search needs)
+    (λ c. search needs)
+    (λ c. search needs)
+    (λ c κs. search needs)
+    (λ c. search needs)
     returns)

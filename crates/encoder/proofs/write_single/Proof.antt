@@ -29,23 +29,11 @@ room c =
     let sequence = c .before .before .before .before .before .args .sequence in
     omega (arith, c .before .before .before .before .before .pre .1 .1, ap length (one c .payload sequence), length-append (bytes 8 sequence) (fields c), length-bytes 8 sequence)
 
-operation-at-requires : tie.Need-operation-at-requires
-operation-at-requires c κs = search needs
-
-tag-requires : tie.Need-tag-requires
-tag-requires c κs = search needs
-
-write-opcode-requires : tie.Need-write-opcode-requires
-write-opcode-requires c κs = let h = room (c .before .before) in omega arith
-
 sub-write-fields : tie.Need-sub-write-fields
 sub-write-fields c = let h = room (c .before .before .before .before .before) in omega (arith, c .before .before .write-opcode .kept .0)
 
 part-write-fields-start : tie.Need-part-write-fields-start
 part-write-fields-start c = let h = room (c .before .before .before .before .before) in omega (arith, c .before .before .write-opcode .kept .0)
-
-part-write-fields-end : tie.Need-part-write-fields-end
-part-write-fields-end c = search needs
 
 write-fields-requires : tie.Need-write-fields-requires
 write-fields-requires c κs =
@@ -53,9 +41,6 @@ write-fields-requires c κs =
     let h = room (c .before .before .before .before .before .before) in
     let out = c .before .before .before .write-opcode .last .0 in
     (c .before .before .before .before .before .before .before .before .before .before .before .pre .0 .few, (x .fits, omega (arith, mid-len 9 (length out) out (le-refl (length out)), c .before .before .before .write-opcode .kept .0)))
-
-same-length : tie.Need-same-length
-same-length c = search needs
 
 returns : tie.Need-returns
 returns c =
@@ -77,12 +62,12 @@ pub write-single-spec : {M : Type 1} → statement M
 write-single-spec =
     tie.close
     (tie.spec
-    operation-at-requires
-    tag-requires
-    write-opcode-requires
+    (λ c κs. search needs)
+    (λ c κs. search needs)
+    (λ c κs. let h = room (c .before .before) in omega arith)
     sub-write-fields
     part-write-fields-start
-    part-write-fields-end
+    (λ c. search needs)
     write-fields-requires
-    same-length
+    (λ c. search needs)
     returns)

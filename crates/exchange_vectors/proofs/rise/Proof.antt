@@ -12,41 +12,17 @@ Inv-loop s₀ b₀ i₀ s b i = (i ≤ length s₀) × (length s ≡ length s₀
 abbrev μ-loop : tie.MeasureT-loop
 μ-loop s₀ b₀ i₀ s b i = length s₀ - i
 
-loop-holds : tie.Need-loop-holds Inv-loop μ-loop
-loop-holds c = search needs
-
-slice-write-s : tie.Need-slice-write-s Inv-loop μ-loop
-slice-write-s c = search needs
-
-wrapping-add-u8-requires : tie.Need-wrapping-add-u8-requires Inv-loop μ-loop
-wrapping-add-u8-requires c κs = search needs
-
-add-i : tie.Need-add-i Inv-loop μ-loop
-add-i c = search needs
-
-loop-less : tie.Need-loop-less Inv-loop μ-loop
-loop-less c = search needs
-
-loop-again : tie.Need-loop-again Inv-loop μ-loop
-loop-again c = search needs
-
-same-length : tie.Need-same-length Inv-loop μ-loop
-same-length c = search needs
-
-returns : tie.Need-returns Inv-loop μ-loop
-returns c = search needs
-
 pub rise-spec : {M : Type 1} → statement M
 rise-spec =
     tie.close
     (tie.spec
     Inv-loop
     μ-loop
-    loop-holds
-    slice-write-s
-    wrapping-add-u8-requires
-    add-i
-    loop-less
-    loop-again
-    same-length
-    returns)
+    (λ c. search needs)
+    (λ c. search needs)
+    (λ c κs. search needs)
+    (λ c. search needs)
+    (λ c. search needs)
+    (λ c. search needs)
+    (λ c. search needs)
+    (λ c. search needs))

@@ -20,27 +20,12 @@ abbrev μ-loop : tie.MeasureT-loop
 loop-holds : tie.Need-loop-holds Inv-loop μ-loop
 loop-holds c = (search needs, refl, refl)
 
-shared-slice-read-out : tie.Need-shared-slice-read-out Inv-loop μ-loop
-shared-slice-read-out c = search needs
-
-slice-write-out : tie.Need-slice-write-out Inv-loop μ-loop
-slice-write-out c = search needs
-
-add-i : tie.Need-add-i Inv-loop μ-loop
-add-i c = search needs
-
-loop-less : tie.Need-loop-less Inv-loop μ-loop
-loop-less c = search needs
-
 loop-again : tie.Need-loop-again Inv-loop μ-loop
 loop-again c =
     let l = c .before .before .loop in
     let a = c .before .before .before .args in
     let e = ap (λ (t : List ℕ). set t (l .i) (getD (a .src .now) (l .i) 0)) (l .inv .2) in
     (omega arith, simp length-set (l .inv .1), e ∙ copy-more (l .i) (a .src .now) (a .out .now) (omega arith) (omega arith))
-
-same-length : tie.Need-same-length Inv-loop μ-loop
-same-length c = search needs
 
 returns : tie.Need-returns Inv-loop μ-loop
 returns c =
@@ -55,10 +40,10 @@ copy-spec =
     Inv-loop
     μ-loop
     loop-holds
-    shared-slice-read-out
-    slice-write-out
-    add-i
-    loop-less
+    (λ c. search needs)
+    (λ c. search needs)
+    (λ c. search needs)
+    (λ c. search needs)
     loop-again
-    same-length
+    (λ c. search needs)
     returns)

@@ -12,24 +12,6 @@ use Rattle.fields.specs.Fields.{bytes}
 use Rattle.fields.proofs.put_u64.Statement.{statement}
 use Rattle.fields.proofs.put_u64.Tie as tie
 
-cast-low : tie.Need-cast-low
-cast-low c = search needs
-
-cast-high : tie.Need-cast-high
-cast-high c = search needs
-
-put-u32-requires : tie.Need-put-u32-requires
-put-u32-requires c κs = search needs
-
-add-put-u32 : tie.Need-add-put-u32
-add-put-u32 c = search needs
-
-put-u32-requires-2 : tie.Need-put-u32-requires-2
-put-u32-requires-2 c κs = search needs
-
-same-length : tie.Need-same-length
-same-length c = search needs
-
 returns : tie.Need-returns
 returns c =
     let a = c .before .before .before .before .before .before .before .before .before .args in
@@ -46,10 +28,10 @@ pub put-u64-spec : {M : Type 1} → statement M
 put-u64-spec =
     tie.close
     (tie.spec
-    cast-low
-    cast-high
-    put-u32-requires
-    add-put-u32
-    put-u32-requires-2
-    same-length
+    (λ c. search needs)
+    (λ c. search needs)
+    (λ c κs. search needs)
+    (λ c. search needs)
+    (λ c κs. search needs)
+    (λ c. search needs)
     returns)

@@ -11,12 +11,6 @@ use Rattle.fields.specs.Fields.{bytes}
 use Rattle.fields.proofs.put_u8.Statement.{statement}
 use Rattle.fields.proofs.put_u8.Tie as tie
 
-slice-write-out : tie.Need-slice-write-out
-slice-write-out c = search needs
-
-same-length : tie.Need-same-length
-same-length c = search needs
-
 returns : tie.Need-returns
 unfolding bytes
 returns c =
@@ -26,4 +20,4 @@ returns c =
     ∙ placed-bytes 1 (c .args .v) (c .args .at) (c .args .out .now)
 
 pub put-u8-spec : {M : Type 1} → statement M
-put-u8-spec = tie.close (tie.spec slice-write-out same-length returns)
+put-u8-spec = tie.close (tie.spec (λ c. search needs) (λ c. search needs) returns)

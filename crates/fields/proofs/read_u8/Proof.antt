@@ -13,14 +13,8 @@ use Rattle.fields.proofs.read_u8.Tie as tie
 returns : tie.Need-returns
 returns c = sym (field8-past (c .before .args .s .now) (c .before .args .at) (omega arith))
 
-shared-slice-read-t6 : tie.Need-shared-slice-read-t6
-shared-slice-read-t6 c = search needs
-
-add-t3 : tie.Need-add-t3
-add-t3 c = search needs
-
 returns-2 : tie.Need-returns-2
 returns-2 c = let a = c .before .before .args in ap (λ (b : ℕ). F8.Value b (a .at + 1)) (sym (num-one (a .s .now) (a .at))) ∙ sym (field8-room (a .s .now) (a .at) (omega arith))
 
 pub read-u8-spec : {M : Type 1} → statement M
-read-u8-spec = tie.close (tie.spec returns shared-slice-read-t6 add-t3 returns-2)
+read-u8-spec = tie.close (tie.spec returns (λ c. search needs) (λ c. search needs) returns-2)

@@ -13,7 +13,6 @@ use Rattle.graph.specs.Decoded.{Laid}
 use Rattle.graph.specs.Graph.{Graph, linkedTest}
 use Rattle.graph.specs.Layout.{firstNode, graphLength, startsFrom}
 use Rattle.graph.specs.Marks.{Under}
-use Rattle.graph.specs.Neighbours.{given}
 use Rattle.graph.specs.Told.{passTold}
 use Rattle.graph.proofs.Body.{pass-refused, answered, body-read, laid-body, graph-refused, graph-told, graph-read}
 use Rattle.graph.proofs.Marking.{under-zeros}
@@ -21,22 +20,12 @@ use Rattle.graph.proofs.Starts.{starts-of, then-zeros}
 use Rattle.graph.proofs.check_graph.Statement.{statement}
 use Rattle.graph.proofs.check_graph.Tie as tie
 
-fill-zero64-requires : tie.Need-fill-zero64-requires
-fill-zero64-requires c κs = search needs
-
 check-body-requires : tie.Need-check-body-requires
 check-body-requires c κs =
     let a = c .before .before .before .before .before .before .before .args in
-    let s = now (a .s) in
     let pre = c .before .before .before .before .before .before .before .pre in
     let lent = c .before .before .before .fill-zero64 .kept .0 in
     (pre .0, (pre .1 .0, (omega (arith, pre .1 .1 .0), subst (λ (l : List ℕ). Under l 1) (sym (c .before .before .before .fill-zero64 .ensures)) (under-zeros (length (now (a .starts)))))))
-
-enum-told : tie.Need-enum-told
-enum-told c = search needs
-
-enum-known-why : tie.Need-enum-known-why
-enum-known-why c = search needs
 
 same-length : tie.Need-same-length
 same-length c = c .before .before .before .before .before .check-body .kept .1 .1 .1 .0 ∙ c .before .before .before .before .before .before .before .before .before .fill-zero64 .kept .0
@@ -45,7 +34,6 @@ returns : tie.Need-returns
 returns c =
     let a = c .before .before .before .before .before .before .before .before .before .before .before .before .before .args in
     let s = now (a .s) in
-    let pre = c .before .before .before .before .before .before .before .before .before .before .before .before .before .pre in
     let e = graph-refused (a .m) (a .count) (a .entry) s (c .before .why .given .0 .0) (pass-refused (readBody (a .m) (a .count) s) (c .before .why .given .0 .0) (sym (c .before .before .before .before .before .check-body .ensures) ∙ c .before .why .given .1)) in
     (sym (ap passTold e), λ g k. absurd (refused-no-answer (c .before .why .given .0 .0) g (sym e ∙ k)))
 
@@ -64,8 +52,6 @@ fill-starts-requires c κs =
 
 zeros-from-requires : tie.Need-zeros-from-requires
 zeros-from-requires c κs =
-    let a = c .before .before .before .before .before .before .before .before .before .before .before .before .before .before .before .before .before .args in
-    let s = now (a .s) in
     let pre = c .before .before .before .before .before .before .before .before .before .before .before .before .before .before .before .before .before .pre in
     let lent = c .before .before .before .before .before .before .before .before .before .before .before .before .before .fill-zero64 .kept .0 in
     let kept = c .before .before .before .before .before .before .before .before .before .check-body .kept .1 .1 .1 .0 in
@@ -78,7 +64,6 @@ check-links-requires c κs =
     let s = now (a .s) in
     let pre = c .before .before .before .before .before .before .before .before .before .before .before .before .before .before .before .before .before .before .before .before .before .pre in
     let b = answered (readBody (a .m) (a .count) s) (sym (c .before .before .before .before .before .before .before .before .before .before .before .before .before .check-body .ensures) ∙ c .before .before .before .before .before .before .before .before .before .enum-told .given .1) in
-    let known = body-read (a .m) (a .count) s (b .value) (b .is) in
     let lent = c .before .before .before .before .before .before .before .before .before .before .before .before .before .before .before .before .before .fill-zero64 .kept .0 in
     let kept = c .before .before .before .before .before .before .before .before .before .before .before .before .before .check-body .kept .1 .1 .1 .0 in
     let kept2 = c .before .before .before .before .before .before .before .fill-starts .kept .1 .1 .0 in
@@ -94,7 +79,6 @@ returns-2 : tie.Need-returns-2
 returns-2 c =
     let a = c .before .before .before .before .before .before .before .before .before .before .before .before .before .before .before .before .before .before .before .before .before .before .args in
     let s = now (a .s) in
-    let pre = c .before .before .before .before .before .before .before .before .before .before .before .before .before .before .before .before .before .before .before .before .before .before .pre in
     let b = answered (readBody (a .m) (a .count) s) (sym (c .before .before .before .before .before .before .before .before .before .before .before .before .before .before .check-body .ensures) ∙ c .before .before .before .before .before .before .before .before .before .before .enum-told .given .1) in
     let known = body-read (a .m) (a .count) s (b .value) (b .is) in
     let lent = c .before .before .before .before .before .before .before .before .before .before .before .before .before .before .before .before .before .before .fill-zero64 .kept .0 in
@@ -115,10 +99,10 @@ pub check-graph-spec : {M : Type 1} → statement M
 check-graph-spec =
     tie.close
     (tie.spec
-    fill-zero64-requires
+    (λ c κs. search needs)
     check-body-requires
-    enum-told
-    enum-known-why
+    (λ c. search needs)
+    (λ c. search needs)
     same-length
     returns
     fill-starts-requires

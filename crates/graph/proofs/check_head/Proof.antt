@@ -16,40 +16,25 @@ returns-2 c =
     let a = c .before .before .before .args in
     sym (head-long (a .crc) (a .sequence) (a .count) (now (a .s)) (c .before .if1 .left) (c .if2 .taken))
 
-get-u64-requires : tie.Need-get-u64-requires
-get-u64-requires c κs = search needs
-
 returns-3 : tie.Need-returns-3
 returns-3 c =
     let a = c .before .before .before .before .before .args in
     sym (head-magic (a .crc) (a .sequence) (a .count) (now (a .s)) (c .before .before .before .if1 .left) (c .before .before .if2 .left) (λ q. c .if3 .taken (c .before .get-u64 .ensures ∙ q)))
-
-get-u32-requires : tie.Need-get-u32-requires
-get-u32-requires c κs = search needs
 
 returns-4 : tie.Need-returns-4
 returns-4 c =
     let a = c .before .before .before .before .before .before .before .args in
     sym (head-version (a .crc) (a .sequence) (a .count) (now (a .s)) (c .before .before .before .before .before .if1 .left) (c .before .before .before .before .if2 .left) (sym (c .before .before .before .get-u64 .ensures) ∙ c .before .before .if3 .left) (λ q. c .if4 .taken (c .before .get-u32 .ensures ∙ q)))
 
-get-u32-requires-2 : tie.Need-get-u32-requires-2
-get-u32-requires-2 c κs = search needs
-
 returns-5 : tie.Need-returns-5
 returns-5 c =
     let a = c .before .before .before .before .before .before .before .before .before .args in
     sym (head-crc (a .crc) (a .sequence) (a .count) (now (a .s)) (c .before .before .before .before .before .before .before .if1 .left) (c .before .before .before .before .before .before .if2 .left) (sym (c .before .before .before .before .before .get-u64 .ensures) ∙ c .before .before .before .before .if3 .left) (sym (c .before .before .before .get-u32 .ensures) ∙ c .before .before .if4 .left) (λ q. c .if5 .taken (c .before .get-u322 .ensures ∙ q)))
 
-get-u64-requires-2 : tie.Need-get-u64-requires-2
-get-u64-requires-2 c κs = search needs
-
 returns-6 : tie.Need-returns-6
 returns-6 c =
     let a = c .before .before .before .before .before .before .before .before .before .before .before .args in
     sym (head-sequence (a .crc) (a .sequence) (a .count) (now (a .s)) (c .before .before .before .before .before .before .before .before .before .if1 .left) (c .before .before .before .before .before .before .before .before .if2 .left) (sym (c .before .before .before .before .before .before .before .get-u64 .ensures) ∙ c .before .before .before .before .before .before .if3 .left) (sym (c .before .before .before .before .before .get-u32 .ensures) ∙ c .before .before .before .before .if4 .left) (sym (c .before .before .before .get-u322 .ensures) ∙ c .before .before .if5 .left) (λ q. c .if6 .taken (c .before .get-u642 .ensures ∙ q)))
-
-get-u64-requires-3 : tie.Need-get-u64-requires-3
-get-u64-requires-3 c κs = search needs
 
 returns-7 : tie.Need-returns-7
 returns-7 c =
@@ -72,15 +57,15 @@ check-head-spec =
     (tie.spec
     returns
     returns-2
-    get-u64-requires
+    (λ c κs. search needs)
     returns-3
-    get-u32-requires
+    (λ c κs. search needs)
     returns-4
-    get-u32-requires-2
+    (λ c κs. search needs)
     returns-5
-    get-u64-requires-2
+    (λ c κs. search needs)
     returns-6
-    get-u64-requires-3
+    (λ c κs. search needs)
     returns-7
     returns-8
     returns-9)

@@ -13,9 +13,6 @@ use Rattle.graph.proofs.Marking.{under-more}
 use Rattle.graph.proofs.check_level.Statement.{statement}
 use Rattle.graph.proofs.check_level.Tie as tie
 
-sub-if1 : tie.Need-sub-if1
-sub-if1 c = omega (arith, c .before .before .pre .1 .0)
-
 returns : tie.Need-returns
 returns c =
     let a = c .before .before .before .args in
@@ -26,12 +23,6 @@ returns c =
 
 get-u32-requires : tie.Need-get-u32-requires
 get-u32-requires c κs = omega (arith, c .before .before .before .pre .0, c .before .before .before .pre .1 .0, c .if1 .left)
-
-cast-degree : tie.Need-cast-degree
-cast-degree c = search needs
-
-degree-limit-requires : tie.Need-degree-limit-requires
-degree-limit-requires c κs = c .before .before .before .before .pre .1 .1 .0
 
 returns-2 : tie.Need-returns-2
 returns-2 c =
@@ -46,12 +37,8 @@ add-check-neighbours c = omega (arith, c .before .before .before .before .before
 check-neighbours-requires : tie.Need-check-neighbours-requires
 check-neighbours-requires c κs =
     let a = c .before .before .before .before .before .before .before .args in
-    let s = now (a .s) in
     let pre = c .before .before .before .before .before .before .before .pre in
     (pre .0, (omega (arith, pre .1 .0, c .before .before .before .before .if1 .left), (pre .1 .1 .1 .0, under-more _ (a .at + 1) (a .at + 4) (omega arith) (pre .1 .1 .1 .1))))
-
-same-length : tie.Need-same-length
-same-length c = c .before .before .check-neighbours .kept .1 .1 .1 .1 .1 .1 .0
 
 returns-3 : tie.Need-returns-3
 returns-3 c =
@@ -65,13 +52,13 @@ pub check-level-spec : {M : Type 1} → statement M
 check-level-spec =
     tie.close
     (tie.spec
-    sub-if1
+    (λ c. omega (arith, c .before .before .pre .1 .0))
     returns
     get-u32-requires
-    cast-degree
-    degree-limit-requires
+    (λ c. search needs)
+    (λ c κs. c .before .before .before .before .pre .1 .1 .0)
     returns-2
     add-check-neighbours
     check-neighbours-requires
-    same-length
+    (λ c. c .before .before .check-neighbours .kept .1 .1 .1 .1 .1 .1 .0)
     returns-3)

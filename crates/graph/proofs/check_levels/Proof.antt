@@ -7,7 +7,6 @@ use denote.Ref.{now}
 use lib.ListN.{length}
 use Rattle.graph.specs.Cache.{readLevel}
 use Rattle.graph.specs.Marks.{Under}
-use Rattle.graph.specs.Neighbours.{given}
 use Rattle.graph.proofs.Decode.{level-within}
 use Rattle.graph.proofs.Listing.{Running, running-none, running-more, running-stop, running-done}
 use Rattle.graph.proofs.Marking.{under-more}
@@ -30,18 +29,10 @@ loop-holds c =
 
 check-level-requires : tie.Need-check-level-requires Inv-loop μ-loop
 check-level-requires c κs =
-    let a = c .before .before .before .before .before .args in
-    let s = now (a .s) in
     let pre = c .before .before .before .before .before .pre in
     let l = (c .before .before .loop) in
     let same = l .inv .same in
     (pre .0, (l .inv .within, (pre .1 .1 .0, (omega (arith, pre .1 .1 .1 .0), l .inv .under))))
-
-enum-known-next : tie.Need-enum-known-next Inv-loop μ-loop
-enum-known-next c = search needs
-
-enum-known-why : tie.Need-enum-known-why Inv-loop μ-loop
-enum-known-why c = search needs
 
 same-length : tie.Need-same-length Inv-loop μ-loop
 same-length c = c .before .before .before .before .before .check-level .kept .1 .1 .1 .1 .1 .1 .1 .0 ∙ c .before .before .before .before .before .before .before .before .loop .inv .same
@@ -72,9 +63,6 @@ loop-again c =
     let n = f .next-is in
     running-more (readLevel (a .m) (a .count) s (a .end) (a .node)) (a .end) (a .levels) (a .first) (length (now (a .marks))) (l .marks) _ (l .at) (l .level) (c .before .next .given .0 .0) (l .inv) (c .before .before .before .before .before .before .before .loop-test .taken) told (omega arith) (c .before .before .before .before .before .check-level .kept .1 .1 .1 .1 .1 .1 .1 .0) (under-more _ (l .at + 5) (c .before .next .given .0 .0 + 1) (omega arith) (c .before .before .before .before .before .check-level .ensures .1))
 
-same-length-2 : tie.Need-same-length-2 Inv-loop μ-loop
-same-length-2 c = c .before .loop .inv .same
-
 returns-2 : tie.Need-returns-2 Inv-loop μ-loop
 returns-2 c =
     let a = c .before .before .before .before .args in
@@ -91,12 +79,12 @@ check-levels-spec =
     μ-loop
     loop-holds
     check-level-requires
-    enum-known-next
-    enum-known-why
+    (λ c. search needs)
+    (λ c. search needs)
     same-length
     returns
     add-level
     loop-less
     loop-again
-    same-length-2
+    (λ c. c .before .loop .inv .same)
     returns-2)

@@ -21,12 +21,6 @@ loop-holds c =
     let pre = c .before .before .pre in
     listing-none (now (a .s)) (a .end) (a .count) (a .node) (a .degree) (a .first) (length (now (a .marks))) (now (a .marks)) (pre .1 .0) refl (pre .1 .1 .1)
 
-sub-if1 : tie.Need-sub-if1 Inv-loop μ-loop
-sub-if1 c = let w = c .before .loop .inv .within in omega arith
-
-same-length : tie.Need-same-length Inv-loop μ-loop
-same-length c = c .before .before .loop .inv .same
-
 returns : tie.Need-returns Inv-loop μ-loop
 returns c =
     let a = c .before .before .before .before .before .args in
@@ -39,12 +33,6 @@ returns c =
 get-u32-requires : tie.Need-get-u32-requires Inv-loop μ-loop
 get-u32-requires c κs = let w = c .before .before .loop .inv .within in let t = c .if1 .left in omega (arith, c .before .before .before .before .before .pre .0)
 
-cast-x : tie.Need-cast-x Inv-loop μ-loop
-cast-x c = search needs
-
-same-length-2 : tie.Need-same-length-2 Inv-loop μ-loop
-same-length-2 c = c .before .before .before .before .loop .inv .same
-
 returns-2 : tie.Need-returns-2 Inv-loop μ-loop
 returns-2 c =
     let a = c .before .before .before .before .before .before .before .args in
@@ -53,9 +41,6 @@ returns-2 c =
     let w = l .inv .within in
     let t = c .before .before .if1 .left in
     (listing-high (now (a .s)) (a .end) (a .count) (a .node) (a .degree) (a .first) (length (now (a .marks))) (l .marks) (l .at) (l .i) (l .inv) (c .before .before .before .loop-test .taken) (c .before .get-u32 .result) (c .before .get-u32 .ensures) (omega arith) (c .if2 .taken), l .inv .under)
-
-same-length-3 : tie.Need-same-length-3 Inv-loop μ-loop
-same-length-3 c = c .before .before .before .before .before .loop .inv .same
 
 returns-3 : tie.Need-returns-3 Inv-loop μ-loop
 returns-3 c =
@@ -66,16 +51,10 @@ returns-3 c =
     let t = c .before .before .before .if1 .left in
     (listing-self (now (a .s)) (a .end) (a .count) (a .node) (a .degree) (a .first) (length (now (a .marks))) (l .marks) (l .at) (l .i) (l .inv) (c .before .before .before .before .loop-test .taken) (c .before .before .get-u32 .result) (c .before .before .get-u32 .ensures) (omega arith) (c .before .if2 .left) (c .if3 .taken), l .inv .under)
 
-mul-if4 : tie.Need-mul-if4 Inv-loop μ-loop
-mul-if4 c = search needs
-
 slice-read-if4 : tie.Need-slice-read-if4 Inv-loop μ-loop
 slice-read-if4 c =
     let same = c .before .before .before .before .before .before .loop .inv .same in
     omega (arith, c .before .before .if2 .left, c .before .before .before .before .before .before .before .before .before .pre .1 .1 .0)
-
-same-length-4 : tie.Need-same-length-4 Inv-loop μ-loop
-same-length-4 c = c .before .before .before .before .before .before .before .loop .inv .same
 
 returns-4 : tie.Need-returns-4 Inv-loop μ-loop
 returns-4 c =
@@ -86,9 +65,6 @@ returns-4 c =
     let t = c .before .before .before .before .before .if1 .left in
     (listing-again (now (a .s)) (a .end) (a .count) (a .node) (a .degree) (a .first) (length (now (a .marks))) (l .marks) (l .at) (l .i) (l .inv) (c .before .before .before .before .before .before .loop-test .taken) (c .before .before .before .before .get-u32 .result) (c .before .before .before .before .get-u32 .ensures) (omega arith) (c .before .before .before .if2 .left) (c .before .before .if3 .left) (c .if4 .taken), l .inv .under)
 
-mul-marks : tie.Need-mul-marks Inv-loop μ-loop
-mul-marks c = search needs
-
 slice-write-marks : tie.Need-slice-write-marks Inv-loop μ-loop
 slice-write-marks c =
     let same = c .before .before .before .before .before .before .before .loop .inv .same in
@@ -96,12 +72,6 @@ slice-write-marks c =
 
 add-at : tie.Need-add-at Inv-loop μ-loop
 add-at c = let w = c .before .before .before .before .before .before .before .loop .inv .within in let t = c .before .before .before .before .before .if1 .left in omega arith
-
-add-i : tie.Need-add-i Inv-loop μ-loop
-add-i c = search needs
-
-loop-less : tie.Need-loop-less Inv-loop μ-loop
-loop-less c = search needs
 
 loop-again : tie.Need-loop-again Inv-loop μ-loop
 loop-again c =
@@ -111,9 +81,6 @@ loop-again c =
     let w = l .inv .within in
     let t = c .before .before .before .before .before .if1 .left in
     listing-more (now (a .s)) (a .end) (a .count) (a .node) (a .degree) (a .first) (length (now (a .marks))) (l .marks) (l .at) (l .i) (l .inv) (c .before .before .before .before .before .before .loop-test .taken) (c .before .before .before .before .get-u32 .result) (c .before .before .before .before .get-u32 .ensures) (omega arith) (pre .1 .1 .0) (c .before .before .before .if2 .left) (c .before .before .if3 .left) (c .if4 .left)
-
-same-length-5 : tie.Need-same-length-5 Inv-loop μ-loop
-same-length-5 c = c .before .loop .inv .same
 
 returns-5 : tie.Need-returns-5 Inv-loop μ-loop
 returns-5 c =
@@ -128,24 +95,24 @@ check-neighbours-spec =
     Inv-loop
     μ-loop
     loop-holds
-    sub-if1
-    same-length
+    (λ c. let w = c .before .loop .inv .within in omega arith)
+    (λ c. c .before .before .loop .inv .same)
     returns
     get-u32-requires
-    cast-x
-    same-length-2
+    (λ c. search needs)
+    (λ c. c .before .before .before .before .loop .inv .same)
     returns-2
-    same-length-3
+    (λ c. c .before .before .before .before .before .loop .inv .same)
     returns-3
-    mul-if4
+    (λ c. search needs)
     slice-read-if4
-    same-length-4
+    (λ c. c .before .before .before .before .before .before .before .loop .inv .same)
     returns-4
-    mul-marks
+    (λ c. search needs)
     slice-write-marks
     add-at
-    add-i
-    loop-less
+    (λ c. search needs)
+    (λ c. search needs)
     loop-again
-    same-length-5
+    (λ c. c .before .loop .inv .same)
     returns-5)

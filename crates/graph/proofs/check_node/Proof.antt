@@ -16,9 +16,6 @@ use Rattle.graph.proofs.Marking.{under-more}
 use Rattle.graph.proofs.check_node.Statement.{statement}
 use Rattle.graph.proofs.check_node.Tie as tie
 
-sub-if1 : tie.Need-sub-if1
-sub-if1 c = omega (arith, c .before .before .pre .1 .0)
-
 returns : tie.Need-returns
 returns c =
     let a = c .before .before .before .args in
@@ -29,12 +26,6 @@ returns c =
 
 shared-slice-read-wide : tie.Need-shared-slice-read-wide
 shared-slice-read-wide c = omega (arith, c .before .before .before .before .pre .0, c .before .before .before .before .pre .1 .0, c .before .if1 .left)
-
-wide-requires : tie.Need-wide-requires
-wide-requires c κs = search needs
-
-in-range-requires : tie.Need-in-range-requires
-in-range-requires c κs = search needs
 
 returns-2 : tie.Need-returns-2
 returns-2 c =
@@ -50,12 +41,8 @@ add-check-levels c = omega (arith, c .before .before .before .before .before .be
 check-levels-requires : tie.Need-check-levels-requires
 check-levels-requires c κs =
     let a = c .before .before .before .before .before .before .before .before .args in
-    let s = now (a .s) in
     let pre = c .before .before .before .before .before .before .before .before .pre in
     (pre .0, (omega (arith, pre .1 .0, c .before .before .before .before .before .if1 .left), (pre .1 .1 .0, (pre .1 .1 .1 .0, under-more _ (a .at + 1) (a .at + 1 + 1) (omega arith) (pre .1 .1 .1 .1)))))
-
-same-length : tie.Need-same-length
-same-length c = c .before .before .check-levels .kept .1 .1 .1 .1 .1 .1 .1 .0
 
 returns-3 : tie.Need-returns-3
 returns-3 c =
@@ -69,13 +56,13 @@ pub check-node-spec : {M : Type 1} → statement M
 check-node-spec =
     tie.close
     (tie.spec
-    sub-if1
+    (λ c. omega (arith, c .before .before .pre .1 .0))
     returns
     shared-slice-read-wide
-    wide-requires
-    in-range-requires
+    (λ c κs. search needs)
+    (λ c κs. search needs)
     returns-2
     add-check-levels
     check-levels-requires
-    same-length
+    (λ c. c .before .before .check-levels .kept .1 .1 .1 .1 .1 .1 .1 .0)
     returns-3)

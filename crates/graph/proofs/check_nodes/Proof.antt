@@ -7,7 +7,6 @@ use denote.Ref.{now}
 use lib.ListN.{length}
 use Rattle.graph.specs.Cache.{readNode, readNodes}
 use Rattle.graph.specs.Layout.{firstNode}
-use Rattle.graph.specs.Neighbours.{given}
 use Rattle.graph.proofs.Decode.{node-within}
 use Rattle.graph.proofs.Listing.{Running, running-none, running-more, running-stop, running-done}
 use Rattle.graph.proofs.Marking.{under-more}
@@ -21,9 +20,6 @@ Inv-loop s m count marks₀ end at₀ node₀ marks at node = Running (readNode 
 abbrev μ-loop : tie.MeasureT-loop
 μ-loop s m count marks₀ end at₀ node₀ marks at node = count - node
 
-sub-end : tie.Need-sub-end Inv-loop μ-loop
-sub-end c = omega (arith, c .before .before .pre .0)
-
 loop-holds : tie.Need-loop-holds Inv-loop μ-loop
 loop-holds c =
     let a = c .before .before .args in
@@ -33,18 +29,10 @@ loop-holds c =
 
 check-node-requires : tie.Need-check-node-requires Inv-loop μ-loop
 check-node-requires c κs =
-    let a = c .before .before .before .before .before .args in
-    let s = now (a .s) in
     let pre = c .before .before .before .before .before .pre in
     let l = (c .before .before .loop) in
     let same = l .inv .same in
     (omega arith, (l .inv .within, (pre .1 .0, (omega (arith, pre .1 .1 .0), l .inv .under))))
-
-enum-known-next : tie.Need-enum-known-next Inv-loop μ-loop
-enum-known-next c = search needs
-
-enum-known-why : tie.Need-enum-known-why Inv-loop μ-loop
-enum-known-why c = search needs
 
 same-length : tie.Need-same-length Inv-loop μ-loop
 same-length c = c .before .before .before .before .before .check-node .kept .1 .1 .1 .1 .1 .1 .0 ∙ c .before .before .before .before .before .before .before .before .loop .inv .same
@@ -54,7 +42,6 @@ unfolding readNodes
 returns c =
     let a = c .before .before .before .before .before .before .before .before .before .before .before .args in
     let s = now (a .s) in
-    let pre = c .before .before .before .before .before .before .before .before .before .before .before .pre in
     let l = (c .before .before .before .before .before .before .before .before .loop) in
     running-stop (readNode (a .m) (a .count) s (length s - 4)) (length s - 4) (a .count) firstNode (length (now (a .marks))) (l .marks) (l .at) (l .node) (c .before .why .given .0 .0) (l .inv) (c .before .before .before .before .before .before .before .loop-test .taken) (sym (c .before .before .before .before .before .check-node .ensures .0) ∙ c .before .why .given .1)
 
@@ -76,15 +63,11 @@ loop-again c =
     let n = f .next-is in
     running-more (readNode (a .m) (a .count) s (length s - 4)) (length s - 4) (a .count) firstNode (length (now (a .marks))) (l .marks) _ (l .at) (l .node) (c .before .next .given .0 .0) (l .inv) (c .before .before .before .before .before .before .before .loop-test .taken) told (omega arith) (c .before .before .before .before .before .check-node .kept .1 .1 .1 .1 .1 .1 .0) (c .before .before .before .before .before .check-node .ensures .1 (c .before .next .given .0 .0) (c .before .next .given .1))
 
-same-length-2 : tie.Need-same-length-2 Inv-loop μ-loop
-same-length-2 c = c .before .loop .inv .same
-
 returns-2 : tie.Need-returns-2 Inv-loop μ-loop
 unfolding readNodes
 returns-2 c =
     let a = c .before .before .before .before .args in
     let s = now (a .s) in
-    let pre = c .before .before .before .before .pre in
     let l = (c .before .loop) in
     running-done (readNode (a .m) (a .count) s (length s - 4)) (length s - 4) (a .count) firstNode (length (now (a .marks))) (l .marks) (l .at) (l .node) (l .inv) (c .loop-test .left)
 
@@ -94,15 +77,15 @@ check-nodes-spec =
     (tie.spec
     Inv-loop
     μ-loop
-    sub-end
+    (λ c. omega (arith, c .before .before .pre .0))
     loop-holds
     check-node-requires
-    enum-known-next
-    enum-known-why
+    (λ c. search needs)
+    (λ c. search needs)
     same-length
     returns
     add-node
     loop-less
     loop-again
-    same-length-2
+    (λ c. c .before .loop .inv .same)
     returns-2)

@@ -9,23 +9,11 @@ use Rattle.graph.specs.Layout.{rngPlace}
 use Rattle.graph.proofs.check_room.Statement.{statement}
 use Rattle.graph.proofs.check_room.Tie as tie
 
-get-u64-requires : tie.Need-get-u64-requires
-get-u64-requires c κs = search needs
-
-rng-state-requires : tie.Need-rng-state-requires
-rng-state-requires c κs = search needs
-
 returns : tie.Need-returns
 unfolding roomTest
 returns c =
     let s = now (c .before .before .before .before .args .s) in
     simp (ne-eqb (num s rngPlace 8) _ (λ q. c .if1 .taken (c .before .before .get-u64 .ensures ∙ q ∙ sym (c .before .rng-state .ensures))))
-
-sub-if2 : tie.Need-sub-if2
-sub-if2 c = search needs
-
-sub-if2-2 : tie.Need-sub-if2-2
-sub-if2-2 c = search needs
 
 returns-2 : tie.Need-returns-2
 unfolding roomTest
@@ -49,11 +37,11 @@ pub check-room-spec : {M : Type 1} → statement M
 check-room-spec =
     tie.close
     (tie.spec
-    get-u64-requires
-    rng-state-requires
+    (λ c κs. search needs)
+    (λ c κs. search needs)
     returns
-    sub-if2
-    sub-if2-2
+    (λ c. search needs)
+    (λ c. search needs)
     returns-2
     returns-3
     returns-4)

@@ -5,9 +5,6 @@ use Rattle.graph.specs.Graph.{degreeLimit}
 use Rattle.graph.proofs.degree_limit.Statement.{statement}
 use Rattle.graph.proofs.degree_limit.Tie as tie
 
-mul-result : tie.Need-mul-result
-mul-result c = search needs
-
 returns : tie.Need-returns
 unfolding degreeLimit
 returns c = simp (eq-eqb _ _ (c .if1 .taken))
@@ -17,4 +14,4 @@ unfolding degreeLimit
 returns-2 c = simp (ne-eqb _ _ (c .if1 .left))
 
 pub degree-limit-spec : {M : Type 1} → statement M
-degree-limit-spec = tie.close (tie.spec mul-result returns returns-2)
+degree-limit-spec = tie.close (tie.spec (λ c. search needs) returns returns-2)

@@ -17,16 +17,10 @@ loop-holds : tie.Need-loop-holds Inv-loop μ-loop
 loop-holds c =
     let a = c .before .before .args in
     let s = now (a .s) in
-    let pre = c .before .before .pre in
     filling-none s (a .count) (now (a .starts))
-
-mul-starts : tie.Need-mul-starts Inv-loop μ-loop
-mul-starts c = search needs
 
 slice-write-starts : tie.Need-slice-write-starts Inv-loop μ-loop
 slice-write-starts c =
-    let a = c .before .before .before .before .args in
-    let s = now (a .s) in
     let pre = c .before .before .before .before .pre in
     let l = (c .before .loop) in
     let same = l .inv .same in
@@ -41,12 +35,6 @@ node-end-requires c κs =
     let l = (c .before .loop) in
     filling-room s (a .count) (now (a .starts)) (l .starts) (l .at) (l .i) (l .inv) (c .loop-test .taken) (pre .1)
 
-add-i : tie.Need-add-i Inv-loop μ-loop
-add-i c = let t = c .before .loop-test .taken in omega arith
-
-loop-less : tie.Need-loop-less Inv-loop μ-loop
-loop-less c = let t = c .before .loop-test .taken in omega arith
-
 loop-again : tie.Need-loop-again Inv-loop μ-loop
 loop-again c =
     let a = c .before .before .before .before .before .args in
@@ -55,14 +43,10 @@ loop-again c =
     let l = (c .before .before .loop) in
     filling-more s (a .count) (now (a .starts)) (l .starts) (l .at) (l .i) (l .inv) (c .before .loop-test .taken) (pre .0) (c .node-end .result) (c .node-end .ensures)
 
-same-length : tie.Need-same-length Inv-loop μ-loop
-same-length c = c .before .loop .inv .same
-
 returns : tie.Need-returns Inv-loop μ-loop
 returns c =
     let a = c .before .before .before .before .args in
     let s = now (a .s) in
-    let pre = c .before .before .before .before .pre in
     let l = (c .before .loop) in
     filling-done s (a .count) (now (a .starts)) (l .starts) (l .at) (l .i) (l .inv) (c .loop-test .left)
 
@@ -73,11 +57,11 @@ fill-starts-spec =
     Inv-loop
     μ-loop
     loop-holds
-    mul-starts
+    (λ c. search needs)
     slice-write-starts
     node-end-requires
-    add-i
-    loop-less
+    (λ c. let t = c .before .loop-test .taken in omega arith)
+    (λ c. let t = c .before .loop-test .taken in omega arith)
     loop-again
-    same-length
+    (λ c. c .before .loop .inv .same)
     returns)

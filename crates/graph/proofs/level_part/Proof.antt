@@ -11,9 +11,6 @@ use Rattle.graph.specs.Neighbours.{levelPart}
 use Rattle.graph.proofs.level_part.Statement.{statement}
 use Rattle.graph.proofs.level_part.Tie as tie
 
-sub-if1 : tie.Need-sub-if1
-sub-if1 c = search needs
-
 returns : tie.Need-returns
 unfolding levelPart
 returns c =
@@ -22,21 +19,6 @@ returns c =
     let at = a .at in
     let r : length s < at + 4 = omega (arith, c .if1 .taken, c .before .before .pre) in
     simp (lt-ltb _ _ r)
-
-get-u32-requires : tie.Need-get-u32-requires
-get-u32-requires c κs = search needs
-
-cast-size : tie.Need-cast-size
-cast-size c = search needs
-
-mul-size : tie.Need-mul-size
-mul-size c = search needs
-
-sub-if2 : tie.Need-sub-if2
-sub-if2 c = search needs
-
-sub-if2-2 : tie.Need-sub-if2-2
-sub-if2-2 c = search needs
 
 returns-2 : tie.Need-returns-2
 unfolding levelPart
@@ -48,9 +30,6 @@ returns-2 c =
     let r : at + 4 ≤ length s = omega (arith, c .before .before .if1 .left, c .before .before .before .before .pre) in
     let f : length s < at + 4 + 4 * num s at 4 = omega (arith, c .if2 .taken, d, r) in
     simp (le-ltb _ _ r, lt-ltb _ _ f)
-
-add-t5 : tie.Need-add-t5
-add-t5 c = search needs
 
 returns-3 : tie.Need-returns-3
 unfolding levelPart
@@ -67,13 +46,13 @@ pub level-part-spec : {M : Type 1} → statement M
 level-part-spec =
     tie.close
     (tie.spec
-    sub-if1
+    (λ c. search needs)
     returns
-    get-u32-requires
-    cast-size
-    mul-size
-    sub-if2
-    sub-if2-2
+    (λ c κs. search needs)
+    (λ c. search needs)
+    (λ c. search needs)
+    (λ c. search needs)
+    (λ c. search needs)
     returns-2
-    add-t5
+    (λ c. search needs)
     returns-3)

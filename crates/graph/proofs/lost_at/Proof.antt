@@ -27,14 +27,15 @@ loop-holds c =
     let a = c .before .before .args in
     (search needs, omega arith, ap (lostAt (heightAt (now (a .s)) (now (a .starts))) (a .level)) (numbers-all (a .degree) (now (a .s)) (a .first)))
 
+-- the levels of the neighbour that is looked at
+high : (c : tie.After-wide Inv-loop μ-loop)
+    → c .wide .result ≡ heightAt (now (c .before .before .before .before .before .before .before .before .args .s)) (now (c .before .before .before .before .before .before .before .before .args .starts)) (num (now (c .before .before .before .before .before .before .before .before .args .s)) (c .before .before .before .before .before .loop .at) 4)
+high c =
+    let a = c .before .before .before .before .before .before .before .before .args in
+    height-is (now (a .s)) (now (a .starts)) (c .before .before .before .get-u32 .result) (num (now (a .s)) (c .before .before .before .before .before .loop .at) 4) (c .wide .result) (c .before .before .before .get-u32 .ensures) (c .wide .ensures .0)
+
 get-u32-requires : tie.Need-get-u32-requires Inv-loop μ-loop
 get-u32-requires c κs = let i = c .before .loop .inv in let t = c .loop-test .taken in omega (arith, c .before .before .before .before .pre .0)
-
-cast-x : tie.Need-cast-x Inv-loop μ-loop
-cast-x c = search needs
-
-mul-start : tie.Need-mul-start Inv-loop μ-loop
-mul-start c = search needs
 
 shared-slice-read-start : tie.Need-shared-slice-read-start Inv-loop μ-loop
 shared-slice-read-start c =
@@ -47,27 +48,16 @@ shared-slice-read-start c =
 shared-slice-read-wide : tie.Need-shared-slice-read-wide Inv-loop μ-loop
 shared-slice-read-wide c = c .before .before .before .before .before .before .before .pre .1 .1 (c .before .before .get-u32 .result)
 
-wide-requires : tie.Need-wide-requires Inv-loop μ-loop
-wide-requires c κs = search needs
-
 returns : tie.Need-returns Inv-loop μ-loop
 returns c =
     let a = c .before .before .before .before .before .before .before .before .before .args in
     let s = now (a .s) in
     let starts = now (a .starts) in
     let l = (c .before .before .before .before .before .before .loop) in
-    let x = c .before .before .before .before .get-u32 .result in
-    let high : c .before .wide .result ≡ heightAt s starts (num s (l .at) 4) = height-is s starts x (num s (l .at) 4) (c .before .wide .result) (c .before .before .before .before .get-u32 .ensures) (c .before .wide .ensures .0) in
-    sym (any-here (λ x. leb (heightAt s starts x) (a .level)) (numbersAt (a .degree - l .i) s (l .at)) (numbersAt (a .degree - (l .i + 1)) s (l .at + 4)) (num s (l .at) 4) (numbers-turn (a .degree) (l .i) s (l .at) (c .before .before .before .before .before .loop-test .taken)) (ap (λ (n : ℕ). leb n (a .level)) (sym high) ∙ le-leb _ _ (c .if1 .taken))) ∙ l .inv .2
+    sym (any-here (λ x. leb (heightAt s starts x) (a .level)) (numbersAt (a .degree - l .i) s (l .at)) (numbersAt (a .degree - (l .i + 1)) s (l .at + 4)) (num s (l .at) 4) (numbers-turn (a .degree) (l .i) s (l .at) (c .before .before .before .before .before .loop-test .taken)) (ap (λ (n : ℕ). leb n (a .level)) (sym (high (c .before))) ∙ le-leb _ _ (c .if1 .taken))) ∙ l .inv .2
 
 add-at : tie.Need-add-at Inv-loop μ-loop
 add-at c = let i = c .before .before .before .before .before .before .loop .inv in let t = c .before .before .before .before .before .loop-test .taken in omega (arith, c .before .before .before .before .before .before .before .before .before .pre .0)
-
-add-i : tie.Need-add-i Inv-loop μ-loop
-add-i c = search needs
-
-loop-less : tie.Need-loop-less Inv-loop μ-loop
-loop-less c = search needs
 
 loop-again : tie.Need-loop-again Inv-loop μ-loop
 loop-again c =
@@ -75,10 +65,8 @@ loop-again c =
     let s = now (a .s) in
     let starts = now (a .starts) in
     let l = (c .before .before .before .before .before .before .loop) in
-    let x = c .before .before .before .before .get-u32 .result in
-    let high : c .before .wide .result ≡ heightAt s starts (num s (l .at) 4) = height-is s starts x (num s (l .at) 4) (c .before .wide .result) (c .before .before .before .before .get-u32 .ensures) (c .before .wide .ensures .0) in
     let t = c .before .before .before .before .before .loop-test .taken in
-    (search needs, omega arith, sym (any-on (λ x. leb (heightAt s starts x) (a .level)) (numbersAt (a .degree - l .i) s (l .at)) (numbersAt (a .degree - (l .i + 1)) s (l .at + 4)) (num s (l .at) 4) (numbers-turn (a .degree) (l .i) s (l .at) (c .before .before .before .before .before .loop-test .taken)) (ap (λ (n : ℕ). leb n (a .level)) (sym high) ∙ lt-leb _ _ (c .if1 .left))) ∙ l .inv .2)
+    (search needs, omega arith, sym (any-on (λ x. leb (heightAt s starts x) (a .level)) (numbersAt (a .degree - l .i) s (l .at)) (numbersAt (a .degree - (l .i + 1)) s (l .at + 4)) (num s (l .at) 4) (numbers-turn (a .degree) (l .i) s (l .at) (c .before .before .before .before .before .loop-test .taken)) (ap (λ (n : ℕ). leb n (a .level)) (sym (high (c .before))) ∙ lt-leb _ _ (c .if1 .left))) ∙ l .inv .2)
 
 returns-2 : tie.Need-returns-2 Inv-loop μ-loop
 returns-2 c =
@@ -96,14 +84,14 @@ lost-at-spec =
     μ-loop
     loop-holds
     get-u32-requires
-    cast-x
-    mul-start
+    (λ c. search needs)
+    (λ c. search needs)
     shared-slice-read-start
     shared-slice-read-wide
-    wide-requires
+    (λ c κs. search needs)
     returns
     add-at
-    add-i
-    loop-less
+    (λ c. search needs)
+    (λ c. search needs)
     loop-again
     returns-2)

@@ -1,69 +1,44 @@
 -- `neighbours` lends the part that is shown.
-use Prim.Native.Nat.{ℕ, _+_, _-_}
+use Prim.Native.Nat.{ℕ, _+_, _-_, _≤_}
 use native.Mathlib.Omega.{arith}
 use mathlib.Core.Path.{_≡_, sym, ap, _∙_}
 use borrow.Author.Needs.{needs}
 use denote.Ref.{now}
-use lib.ListN.{drop, take}
+use lib.ListN.{length, drop, take}
 use native.Mathlib.Nat.{zero-add}
-use Rattle.graph.specs.Neighbours.{given, partOf}
-use Rattle.graph.specs.Told.{startOf}
+use Rattle.refusal.specs.Refusal.{answer}
+use Rattle.graph.specs.Neighbours.{CachePart, partGiven, partOf}
+use Rattle.graph.specs.Told.{partStart}
 use Rattle.graph.proofs.Shows.{part-told, refusal-told, shown-inside}
 use Rattle.graph.specs.Neighbours.{neighbours as neighboursAt}
 use Rattle.graph.proofs.neighbours.Statement.{statement}
 use Rattle.graph.proofs.neighbours.Tie as tie
 
-neighbours-part-requires : tie.Need-neighbours-part-requires
-neighbours-part-requires c κs = search needs
+-- ---- the part that is shown
+abbrev start : tie.After-known-told → tie.Start
+start c = c .before .before .before .before .before .before
 
-enum-known-at : tie.Need-enum-known-at
-enum-known-at c = search needs
+abbrev shown : tie.After-known-told → CachePart
+shown c = record { at = c .before .at .given .0 .0; size = c .before .at .given .0 .1 .0 }
 
-add-end : tie.Need-add-end
-add-end c =
-    let a = c .before .before .before .before .before .before .args in
-    let s = now (a .cache) in
-    let starts = now (a .starts) in
-    let at = c .before .at .given .0 .0 in
-    let size = c .before .at .given .0 .1 .0 in
-    let e = part-told (neighboursAt s starts (a .count) (a .node .0) (a .level)) at size (sym (c .before .before .before .neighbours-part .ensures) ∙ c .before .at .given .1) in
-    let within = shown-inside s starts (a .count) (a .node .0) (a .level) (record { at = at; size = size }) e in
-    omega arith
+is : (c : tie.After-known-told)
+    → neighboursAt (now (start c .args .cache)) (now (start c .args .starts)) (start c .args .count) (start c .args .node .0) (start c .args .level) ≡ answer (shown c)
+is c = part-told _ _ _ (sym (c .before .before .before .neighbours-part .ensures) ∙ c .before .at .given .1)
 
-sub-result : tie.Need-sub-result
-sub-result c = search needs
+within : (c : tie.After-known-told) → shown c .at + shown c .size ≤ length (now (start c .args .cache))
+within c =
+    let a = start c .args in
+    shown-inside (now (a .cache)) (now (a .starts)) (a .count) (a .node .0) (a .level) (shown c) (is c)
 
-part-result-start : tie.Need-part-result-start
-part-result-start c = search needs
-
-part-result-end : tie.Need-part-result-end
-part-result-end c =
-    let a = c .before .before .before .before .before .before .args in
-    let s = now (a .cache) in
-    let starts = now (a .starts) in
-    let at = c .before .at .given .0 .0 in
-    let size = c .before .at .given .0 .1 .0 in
-    let e = part-told (neighboursAt s starts (a .count) (a .node .0) (a .level)) at size (sym (c .before .before .before .neighbours-part .ensures) ∙ c .before .at .given .1) in
-    let within = shown-inside s starts (a .count) (a .node .0) (a .level) (record { at = at; size = size }) e in
-    omega arith
-
-enum-told : tie.Need-enum-told
-enum-told c = search needs
-
-slice-aggregate-result : tie.Need-slice-aggregate-result
-slice-aggregate-result c = search needs
-
+-- ---- the needs
 returns : tie.Need-returns
 returns c =
-    let a = c .before .before .before .before .before .before .before .args in
-    let s = now (a .cache) in
-    let starts = now (a .starts) in
-    let at = c .before .before .at .given .0 .0 in
-    let size = c .before .before .at .given .0 .1 .0 in
-    let e = part-told (neighboursAt s starts (a .count) (a .node .0) (a .level)) at size (sym (c .before .before .before .before .neighbours-part .ensures) ∙ c .before .before .at .given .1) in
-    let same : at + size - at ≡ size = omega arith in
-    let g = sym (ap given e) in
-    (ap (λ (n : ℕ). take n (drop at s)) same ∙ ap (partOf s) g, ap (startOf (a .cache .ptr)) g)
+    let k = c .before in
+    let at = shown k .at in
+    let same : at + shown k .size - at ≡ shown k .size = omega arith in
+    let s = now (start k .args .cache) in
+    let g = sym (ap partGiven (is k)) in
+    (ap (λ (n : ℕ). take n (drop at s)) same ∙ ap (partOf s) g, ap (partStart (start k .args .cache .ptr)) g)
 
 returns-2 : tie.Need-returns-2
 returns-2 c =
@@ -71,21 +46,21 @@ returns-2 c =
     let s = now (a .cache) in
     let starts = now (a .starts) in
     let t = c .before .enum-told .given in
-    let e = sym (ap given (refusal-told (neighboursAt s starts (a .count) (a .node .0) (a .level)) (t .0 .0) (sym (c .before .before .before .neighbours-part .ensures) ∙ t .1))) in
+    let e = sym (ap partGiven (refusal-told (neighboursAt s starts (a .count) (a .node .0) (a .level)) (t .0 .0) (sym (c .before .before .before .neighbours-part .ensures) ∙ t .1))) in
     let p = a .cache .ptr in
-    (ap (partOf s) e, ap (λ (k : ℕ). (p .0, k)) (sym (zero-add (p .1))) ∙ ap (startOf p) e)
+    (ap (partOf s) e, ap (λ (k : ℕ). (p .0, k)) (sym (zero-add (p .1))) ∙ ap (partStart p) e)
 
 pub neighbours-spec : {M : Type 1} → statement M
 neighbours-spec =
     tie.close
     (tie.spec
-    neighbours-part-requires
-    enum-known-at
-    add-end
-    sub-result
-    part-result-start
-    part-result-end
-    enum-told
-    slice-aggregate-result
+    (λ c κs. search needs)
+    (λ c. search needs)
+    (λ c. omega (arith, within c))
+    (λ c. search needs)
+    (λ c. search needs)
+    (λ c. omega (arith, within c))
+    (λ c. search needs)
+    (λ c. search needs)
     returns
     returns-2)

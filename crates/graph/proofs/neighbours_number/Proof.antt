@@ -2,24 +2,10 @@
 use mathlib.Core.Path.{sym, _∙_}
 use borrow.Author.Needs.{needs}
 use denote.Ref.{now}
-use Rattle.refusal.specs.Refusal.{number}
-use Rattle.graph.specs.Neighbours.{given}
 use Rattle.graph.proofs.Shows.{number-part, number-refused}
 use Rattle.graph.specs.Neighbours.{neighbours as neighboursAt}
 use Rattle.graph.proofs.neighbours_number.Statement.{statement}
 use Rattle.graph.proofs.neighbours_number.Tie as tie
-
-neighbours-part-requires : tie.Need-neighbours-part-requires
-neighbours-part-requires c κs = search needs
-
-enum-told : tie.Need-enum-told
-enum-told c = search needs
-
-enum-known-why : tie.Need-enum-known-why
-enum-known-why c = search needs
-
-number-requires : tie.Need-number-requires
-number-requires c κs = search needs
 
 returns : tie.Need-returns
 returns c =
@@ -40,9 +26,9 @@ pub neighbours-number-spec : {M : Type 1} → statement M
 neighbours-number-spec =
     tie.close
     (tie.spec
-    neighbours-part-requires
-    enum-told
-    enum-known-why
-    number-requires
+    (λ c κs. search needs)
+    (λ c. search needs)
+    (λ c. search needs)
+    (λ c κs. search needs)
     returns
     returns-2)

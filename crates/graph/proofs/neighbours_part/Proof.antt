@@ -11,9 +11,6 @@ use Rattle.graph.proofs.Shows.{shown-no-node, shown-few, shown-outside,
 use Rattle.graph.proofs.neighbours_part.Statement.{statement}
 use Rattle.graph.proofs.neighbours_part.Tie as tie
 
-cast-n : tie.Need-cast-n
-cast-n c = search needs
-
 returns : tie.Need-returns
 returns c =
     let a = c .before .before .before .before .args in
@@ -28,24 +25,12 @@ returns-2 c =
     let starts = now (a .starts) in
     sym (shown-few s starts (a .count) (a .node .0) (a .level) (c .before .if1 .left) (c .if2 .taken))
 
-mul-start : tie.Need-mul-start
-mul-start c = search needs
-
-shared-slice-read-start : tie.Need-shared-slice-read-start
-shared-slice-read-start c = omega (arith, c .before .before .if1 .left, c .before .if2 .left)
-
 returns-3 : tie.Need-returns-3
 returns-3 c =
     let a = c .before .before .before .before .before .before .before .args in
     let s = now (a .cache) in
     let starts = now (a .starts) in
     sym (shown-outside s starts (a .count) (a .node .0) (a .level) (c .before .before .before .if1 .left) (c .before .before .if2 .left) (c .if3 .taken))
-
-shared-slice-read-wide : tie.Need-shared-slice-read-wide
-shared-slice-read-wide c = c .before .if3 .left
-
-wide-requires : tie.Need-wide-requires
-wide-requires c κs = search needs
 
 returns-4 : tie.Need-returns-4
 returns-4 c =
@@ -54,12 +39,6 @@ returns-4 c =
     let starts = now (a .starts) in
     let levels : num s (getD starts (a .node .0) 0) 1 ≡ c .before .wide .result = num-one s (getD starts (a .node .0) 0) ∙ sym (c .before .wide .ensures .0) in
     sym (shown-no-level s starts (a .count) (a .node .0) (a .level) (c .before .before .before .before .before .before .if1 .left) (c .before .before .before .before .before .if2 .left) (c .before .before .before .if3 .left) (subst (λ (n : ℕ). n ≤ a .level) (sym levels) (c .if4 .taken)))
-
-add-level-above : tie.Need-add-level-above
-add-level-above c = let h = c .before .before .before .if3 .left in omega arith
-
-level-above-requires : tie.Need-level-above-requires
-level-above-requires c κs = let h = c .before .before .before .if3 .left in omega arith
 
 returns-5 : tie.Need-returns-5
 returns-5 c =
@@ -73,15 +52,15 @@ pub neighbours-part-spec : {M : Type 1} → statement M
 neighbours-part-spec =
     tie.close
     (tie.spec
-    cast-n
+    (λ c. search needs)
     returns
     returns-2
-    mul-start
-    shared-slice-read-start
+    (λ c. search needs)
+    (λ c. omega (arith, c .before .before .if1 .left, c .before .if2 .left))
     returns-3
-    shared-slice-read-wide
-    wide-requires
+    (λ c. c .before .if3 .left)
+    (λ c κs. search needs)
     returns-4
-    add-level-above
-    level-above-requires
+    (λ c. let h = c .before .before .before .if3 .left in omega arith)
+    (λ c κs. let h = c .before .before .before .if3 .left in omega arith)
     returns-5)

@@ -16,15 +16,6 @@ Inv-loop s at levels next₀ level₀ next level = (level ≤ levels) × (next +
 abbrev μ-loop : tie.MeasureT-loop
 μ-loop s at levels next₀ level₀ next level = levels - level
 
-shared-slice-read-wide : tie.Need-shared-slice-read-wide Inv-loop μ-loop
-shared-slice-read-wide c = omega (arith, c .before .before .pre)
-
-wide-requires : tie.Need-wide-requires Inv-loop μ-loop
-wide-requires c κs = search needs
-
-add-next : tie.Need-add-next Inv-loop μ-loop
-add-next c = omega (arith, c .before .before .before .pre)
-
 loop-holds : tie.Need-loop-holds Inv-loop μ-loop
 loop-holds c =
     let a = c .before .before .before .args in
@@ -38,15 +29,6 @@ get-u32-requires c κs =
     let i = l .inv .1 in
     omega (arith, levels-length (c .before .before .wide .result) (l .level) s (l .next) (c .loop-test .taken), c .before .before .before .before .before .pre)
 
-cast-next : tie.Need-cast-next Inv-loop μ-loop
-cast-next c = search needs
-
-mul-next : tie.Need-mul-next Inv-loop μ-loop
-mul-next c = search needs
-
-add-next-2 : tie.Need-add-next-2 Inv-loop μ-loop
-add-next-2 c = search needs
-
 add-next-3 : tie.Need-add-next-3 Inv-loop μ-loop
 add-next-3 c =
     let a = c .before .before .before .before .before .before .args in
@@ -55,12 +37,6 @@ add-next-3 c =
     let i = l .inv .1 in
     let d = c .get-u32 .ensures in
     omega (arith, levels-length (c .before .before .before .wide .result) (l .level) s (l .next) (c .before .loop-test .taken), c .before .before .before .before .before .before .pre)
-
-add-level : tie.Need-add-level Inv-loop μ-loop
-add-level c = search needs
-
-loop-less : tie.Need-loop-less Inv-loop μ-loop
-loop-less c = search needs
 
 loop-again : tie.Need-loop-again Inv-loop μ-loop
 loop-again c =
@@ -84,16 +60,16 @@ node-end-spec =
     (tie.spec
     Inv-loop
     μ-loop
-    shared-slice-read-wide
-    wide-requires
-    add-next
+    (λ c. omega (arith, c .before .before .pre))
+    (λ c κs. search needs)
+    (λ c. omega (arith, c .before .before .before .pre))
     loop-holds
     get-u32-requires
-    cast-next
-    mul-next
-    add-next-2
+    (λ c. search needs)
+    (λ c. search needs)
+    (λ c. search needs)
     add-next-3
-    add-level
-    loop-less
+    (λ c. search needs)
+    (λ c. search needs)
     loop-again
     returns)

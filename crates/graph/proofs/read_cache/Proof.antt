@@ -6,28 +6,12 @@ use denote.Ref.{now}
 use lib.ListN.{length, replicate}
 use Rattle.refusal.specs.Refusal.{answer}
 use Rattle.graph.specs.Cache.{readHeader, readGraph}
-use Rattle.graph.specs.Neighbours.{given}
 use Rattle.graph.specs.Told.{cacheTold, startsAfter}
 use Rattle.graph.proofs.Body.{pass-refused, answered, body-read, graph-read, cache-header, cache-graph, cache-good}
 use Rattle.graph.proofs.Head.{header-read, header-refused, header-found}
 use Rattle.graph.specs.declared.ReadCache.the-variants as Caches
 use Rattle.graph.proofs.read_cache.Statement.{statement}
 use Rattle.graph.proofs.read_cache.Tie as tie
-
-read-header-requires : tie.Need-read-header-requires
-read-header-requires c κs = search needs
-
-enum-known-h : tie.Need-enum-known-h
-enum-known-h c = search needs
-
-enum-known-why : tie.Need-enum-known-why
-enum-known-why c = search needs
-
-fill-zero64-requires : tie.Need-fill-zero64-requires
-fill-zero64-requires c κs = search needs
-
-same-length : tie.Need-same-length
-same-length c = c .before .before .fill-zero64 .kept .0
 
 returns : tie.Need-returns
 returns c =
@@ -46,18 +30,6 @@ check-graph-requires c κs =
     let e : readHeader (a .config) (a .crc) (a .sequence) (a .count) lent s ≡ answer h = header-found (readHeader (a .config) (a .crc) (a .sequence) (a .count) lent s) h (sym (c .before .before .before .before .read-header .ensures) ∙ c .before .before .h .given .1) in
     let k = header-read (a .config) (a .crc) (a .sequence) (a .count) lent s h e in
     (k .head .long, (k .settings .m-high, (k .enough, k .entered)))
-
-enum-told : tie.Need-enum-told
-enum-told c = search needs
-
-enum-known-why-2 : tie.Need-enum-known-why-2
-enum-known-why-2 c = search needs
-
-fill-zero64-requires-2 : tie.Need-fill-zero64-requires-2
-fill-zero64-requires-2 c κs = search needs
-
-same-length-2 : tie.Need-same-length-2
-same-length-2 c = c .before .before .before .before .check-graph .kept .1 .1 .1 .1 .0
 
 returns-2 : tie.Need-returns-2
 returns-2 c =
@@ -90,17 +62,17 @@ pub read-cache-spec : {M : Type 1} → statement M
 read-cache-spec =
     tie.close
     (tie.spec
-    read-header-requires
-    enum-known-h
-    enum-known-why
-    fill-zero64-requires
-    same-length
+    (λ c κs. search needs)
+    (λ c. search needs)
+    (λ c. search needs)
+    (λ c κs. search needs)
+    (λ c. c .before .before .fill-zero64 .kept .0)
     returns
     check-graph-requires
-    enum-told
-    enum-known-why-2
-    fill-zero64-requires-2
-    same-length-2
+    (λ c. search needs)
+    (λ c. search needs)
+    (λ c κs. search needs)
+    (λ c. c .before .before .before .before .check-graph .kept .1 .1 .1 .1 .0)
     returns-2
     same-length-3
     returns-3)

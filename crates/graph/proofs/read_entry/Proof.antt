@@ -17,12 +17,9 @@ returns-3 : tie.Need-returns-3
 unfolding entryOf
 returns-3 c = simp (ne-eqb _ _ (c .before .if1 .left), le-leb _ _ (c .if3 .taken))
 
-cast-t9 : tie.Need-cast-t9
-cast-t9 c = omega (arith, c .before .before .pre, c .if3 .left)
-
 returns-4 : tie.Need-returns-4
 unfolding entryOf
 returns-4 c = simp (ne-eqb _ _ (c .before .if1 .left), lt-leb _ _ (c .if3 .left))
 
 pub read-entry-spec : {M : Type 1} → statement M
-read-entry-spec = tie.close (tie.spec returns returns-2 returns-3 cast-t9 returns-4)
+read-entry-spec = tie.close (tie.spec returns returns-2 returns-3 (λ c. omega (arith, c .before .before .pre, c .if3 .left)) returns-4)

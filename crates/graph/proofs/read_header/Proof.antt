@@ -6,39 +6,20 @@ use borrow.Author.Needs.{needs}
 use denote.Ref.{now}
 use Rattle.fields.specs.Fields.{num}
 use Rattle.config.specs.Settings.{validate}
-use Rattle.graph.specs.Cache.{Read, headTest, roomTest}
+use Rattle.graph.specs.Cache.{headTest, roomTest}
 use Rattle.graph.specs.Graph.{entryOf}
 use Rattle.graph.specs.Layout.{entryPlace}
-use Rattle.graph.specs.Neighbours.{given}
 use Rattle.graph.specs.Told.{entryTold, headerTold}
 use Rattle.graph.proofs.Head.{check-refused, check-passed, entry-refused, entry-read, head-passed, header-settings, header-head, header-entry, header-room, header-good}
-use Rattle.graph.specs.declared.ReadHeader.the-variants as ReadHeaders
+use Rattle.graph.specs.declared.ReadCacheHeader.the-variants as ReadCacheHeaders
 use Rattle.graph.proofs.read_header.Statement.{statement}
 use Rattle.graph.proofs.read_header.Tie as tie
-
-validate-requires : tie.Need-validate-requires
-validate-requires c κs = search needs
-
-enum-told : tie.Need-enum-told
-enum-told c = search needs
-
-enum-known-why : tie.Need-enum-known-why
-enum-known-why c = search needs
 
 returns : tie.Need-returns
 returns c =
     let a = c .before .before .before .before .before .args in
     let s = now (a .s) in
     sym (ap headerTold (header-settings (a .config) (a .crc) (a .sequence) (a .count) (a .lent) s (c .before .why .given .0 .0) (check-refused (validate (a .config)) (c .before .why .given .0 .0) (sym (c .before .before .before .validate .ensures) ∙ c .before .why .given .1))))
-
-check-head-requires : tie.Need-check-head-requires
-check-head-requires c κs = search needs
-
-enum-told-2 : tie.Need-enum-told-2
-enum-told-2 c = search needs
-
-enum-known-why-2 : tie.Need-enum-known-why-2
-enum-known-why-2 c = search needs
 
 returns-2 : tie.Need-returns-2
 returns-2 c =
@@ -61,12 +42,6 @@ read-entry-requires c κs =
     let k = head-passed (a .crc) (a .sequence) (a .count) s (check-passed (headTest (a .crc) (a .sequence) (a .count) s) (sym (c .before .before .before .check-head .ensures) ∙ c .before .enum-told2 .given .1)) in
     k .few
 
-enum-known-e : tie.Need-enum-known-e
-enum-known-e c = search needs
-
-enum-known-why-3 : tie.Need-enum-known-why-3
-enum-known-why-3 c = search needs
-
 returns-3 : tie.Need-returns-3
 returns-3 c =
     let a = c .before .before .before .before .before .before .before .before .before .before .before .before .args in
@@ -79,12 +54,6 @@ check-room-requires c κs =
     let s = now (a .s) in
     let k = head-passed (a .crc) (a .sequence) (a .count) s (check-passed (headTest (a .crc) (a .sequence) (a .count) s) (sym (c .before .before .before .before .before .before .before .check-head .ensures) ∙ c .before .before .before .before .before .enum-told2 .given .1)) in
     k .long
-
-enum-told-3 : tie.Need-enum-told-3
-enum-told-3 c = search needs
-
-enum-known-why-4 : tie.Need-enum-known-why-4
-enum-known-why-4 c = search needs
 
 returns-4 : tie.Need-returns-4
 returns-4 c =
@@ -104,28 +73,28 @@ returns-5 : tie.Need-returns-5
 returns-5 c =
     let a = c .before .before .before .before .before .before .before .before .before .before .before .before .before .before .before .before .args in
     let s = now (a .s) in
-    ap (λ (n : ℕ). ReadHeaders.Read (record { entry = c .before .before .before .before .before .e .given .0 .0; «rng_state» = n })) (c .get-u642 .ensures) ∙ sym (ap headerTold (header-good (a .config) (a .crc) (a .sequence) (a .count) (a .lent) s (check-passed (validate (a .config)) (sym (c .before .before .before .before .before .before .before .before .before .before .before .before .before .before .validate .ensures) ∙ c .before .before .before .before .before .before .before .before .before .before .before .before .enum-told .given .1)) (check-passed (headTest (a .crc) (a .sequence) (a .count) s) (sym (c .before .before .before .before .before .before .before .before .before .before .before .check-head .ensures) ∙ c .before .before .before .before .before .before .before .before .before .enum-told2 .given .1)) (c .before .before .before .before .before .e .given .0 .0) (entry-read (entryOf (a .count) (num s entryPlace 8)) (c .before .before .before .before .before .e .given .0 .0) (ap (λ (n : ℕ). entryTold (entryOf (a .count) n)) (sym (c .before .before .before .before .before .before .before .before .get-u64 .ensures)) ∙ sym (c .before .before .before .before .before .before .before .read-entry .ensures) ∙ c .before .before .before .before .before .e .given .1)) (check-passed (roomTest (a .config .seed) (a .count) (a .lent) s) (sym (c .before .before .before .check-room .ensures) ∙ c .before .enum-told3 .given .1))))
+    ap (λ (n : ℕ). ReadCacheHeaders.Read (record { entry = c .before .before .before .before .before .e .given .0 .0; «rng_state» = n })) (c .get-u642 .ensures) ∙ sym (ap headerTold (header-good (a .config) (a .crc) (a .sequence) (a .count) (a .lent) s (check-passed (validate (a .config)) (sym (c .before .before .before .before .before .before .before .before .before .before .before .before .before .before .validate .ensures) ∙ c .before .before .before .before .before .before .before .before .before .before .before .before .enum-told .given .1)) (check-passed (headTest (a .crc) (a .sequence) (a .count) s) (sym (c .before .before .before .before .before .before .before .before .before .before .before .check-head .ensures) ∙ c .before .before .before .before .before .before .before .before .before .enum-told2 .given .1)) (c .before .before .before .before .before .e .given .0 .0) (entry-read (entryOf (a .count) (num s entryPlace 8)) (c .before .before .before .before .before .e .given .0 .0) (ap (λ (n : ℕ). entryTold (entryOf (a .count) n)) (sym (c .before .before .before .before .before .before .before .before .get-u64 .ensures)) ∙ sym (c .before .before .before .before .before .before .before .read-entry .ensures) ∙ c .before .before .before .before .before .e .given .1)) (check-passed (roomTest (a .config .seed) (a .count) (a .lent) s) (sym (c .before .before .before .check-room .ensures) ∙ c .before .enum-told3 .given .1))))
 
 pub read-header-spec : {M : Type 1} → statement M
 read-header-spec =
     tie.close
     (tie.spec
-    validate-requires
-    enum-told
-    enum-known-why
+    (λ c κs. search needs)
+    (λ c. search needs)
+    (λ c. search needs)
     returns
-    check-head-requires
-    enum-told-2
-    enum-known-why-2
+    (λ c κs. search needs)
+    (λ c. search needs)
+    (λ c. search needs)
     returns-2
     get-u64-requires
     read-entry-requires
-    enum-known-e
-    enum-known-why-3
+    (λ c. search needs)
+    (λ c. search needs)
     returns-3
     check-room-requires
-    enum-told-3
-    enum-known-why-4
+    (λ c. search needs)
+    (λ c. search needs)
     returns-4
     get-u64-requires-2
     returns-5)

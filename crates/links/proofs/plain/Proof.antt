@@ -5,15 +5,9 @@ use Rattle.links.specs.Links.{plainWord}
 use Rattle.links.proofs.plain.Statement.{statement}
 use Rattle.links.proofs.plain.Tie as tie
 
-mul-result : tie.Need-mul-result
-mul-result c = search needs
-
-add-result : tie.Need-add-result
-add-result c = search needs
-
 returns : tie.Need-returns
 unfolding plainWord
 returns c = search needs
 
 pub plain-spec : {M : Type 1} → statement M
-plain-spec = tie.close (tie.spec mul-result add-result returns)
+plain-spec = tie.close (tie.spec (λ c. search needs) (λ c. search needs) returns)

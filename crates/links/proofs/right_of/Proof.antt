@@ -5,12 +5,9 @@ use Rattle.links.specs.Links.{rightOf}
 use Rattle.links.proofs.right_of.Statement.{statement}
 use Rattle.links.proofs.right_of.Tie as tie
 
-cast-result : tie.Need-cast-result
-cast-result c = search needs
-
 returns : tie.Need-returns
 unfolding rightOf
 returns c = search needs
 
 pub right-of-spec : {M : Type 1} → statement M
-right-of-spec = tie.close (tie.spec cast-result returns)
+right-of-spec = tie.close (tie.spec (λ c. search needs) returns)

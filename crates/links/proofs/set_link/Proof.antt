@@ -17,30 +17,6 @@ returns c =
     subst (λ (z : ℕ). Linked (a .root) (now (a .words)) (now (a .entries)) (a .link) (now (a .words)) (now (a .entries)) z (a .link)) (sym (c .if1 .taken))
     (linked-top (a .root) (now (a .words)) (now (a .entries)) (a .link))
 
-sub-entry : tie.Need-sub-entry
-sub-entry c = search needs
-
-mul-entry : tie.Need-mul-entry
-mul-entry c = search needs
-
-slice-read-entry : tie.Need-slice-read-entry
-slice-read-entry c = search needs
-
-entry-with-right-requires : tie.Need-entry-with-right-requires
-entry-with-right-requires c κs = search needs
-
-sub-entries : tie.Need-sub-entries
-sub-entries c = search needs
-
-mul-entries : tie.Need-mul-entries
-mul-entries c = search needs
-
-slice-write-entries : tie.Need-slice-write-entries
-slice-write-entries c = search needs
-
-same-length : tie.Need-same-length
-same-length c = search needs
-
 returns-2 : tie.Need-returns-2
 returns-2 c =
     let s = c .before .before .before .before .before .before in
@@ -51,51 +27,6 @@ returns-2 c =
     let e : 2 * (a .cell / 2) + 1 ≡ a .cell = omega arith in
     subst₂ (λ (z x : ℕ). Linked (a .root) (now (a .words)) (now (a .entries)) (a .root) (now (a .words)) (set (now (a .entries)) (a .cell / 2 - 1) x) z (a .link)) e (sym (c .entry-with-right .ensures))
     (linked-right (a .root) (now (a .words)) (now (a .entries)) (a .cell / 2) (a .link) p (s .pre .1 .1 .0) (s .pre .1 .1 .1))
-
-mul-word : tie.Need-mul-word
-mul-word c = search needs
-
-sub-word : tie.Need-sub-word
-sub-word c = search needs
-
-mul-word-2 : tie.Need-mul-word-2
-mul-word-2 c = search needs
-
-slice-read-word : tie.Need-slice-read-word
-slice-read-word c = search needs
-
-word-with-left-requires : tie.Need-word-with-left-requires
-word-with-left-requires c κs = search needs
-
-mul-words : tie.Need-mul-words
-mul-words c = search needs
-
-sub-words : tie.Need-sub-words
-sub-words c = search needs
-
-mul-words-2 : tie.Need-mul-words-2
-mul-words-2 c = search needs
-
-slice-write-words : tie.Need-slice-write-words
-slice-write-words c = search needs
-
-entry-with-left-requires : tie.Need-entry-with-left-requires
-entry-with-left-requires c κs = search needs
-
-sub-entries-2 : tie.Need-sub-entries-2
-sub-entries-2 c = search needs
-
-mul-entries-2 : tie.Need-mul-entries-2
-mul-entries-2 c = search needs
-
-slice-write-entries-2 : tie.Need-slice-write-entries-2
-slice-write-entries-2 c = search needs
-
-same-length-2 : tie.Need-same-length-2
-same-length-2 c = search needs
-
-same-length-3 : tie.Need-same-length-3
-same-length-3 c = search needs
 
 returns-3 : tie.Need-returns-3
 returns-3 c =
@@ -115,28 +46,28 @@ set-link-spec =
     tie.close
     (tie.spec
     returns
-    sub-entry
-    mul-entry
-    slice-read-entry
-    entry-with-right-requires
-    sub-entries
-    mul-entries
-    slice-write-entries
-    same-length
+    (λ c. search needs)
+    (λ c. search needs)
+    (λ c. search needs)
+    (λ c κs. search needs)
+    (λ c. search needs)
+    (λ c. search needs)
+    (λ c. search needs)
+    (λ c. search needs)
     returns-2
-    mul-word
-    sub-word
-    mul-word-2
-    slice-read-word
-    word-with-left-requires
-    mul-words
-    sub-words
-    mul-words-2
-    slice-write-words
-    entry-with-left-requires
-    sub-entries-2
-    mul-entries-2
-    slice-write-entries-2
-    same-length-2
-    same-length-3
+    (λ c. search needs)
+    (λ c. search needs)
+    (λ c. search needs)
+    (λ c. search needs)
+    (λ c κs. search needs)
+    (λ c. search needs)
+    (λ c. search needs)
+    (λ c. search needs)
+    (λ c. search needs)
+    (λ c κs. search needs)
+    (λ c. search needs)
+    (λ c. search needs)
+    (λ c. search needs)
+    (λ c. search needs)
+    (λ c. search needs)
     returns-3)

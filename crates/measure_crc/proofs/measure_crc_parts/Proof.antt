@@ -8,22 +8,10 @@ use borrow.Author.Needs.{needs}
 use Rattle.measure_crc.proofs.measure_crc_parts.Statement.{statement}
 use Rattle.measure_crc.proofs.measure_crc_parts.Tie as tie
 
-crc32-requires : tie.Need-crc32-requires
-crc32-requires c κs = search needs
-
-returns : tie.Need-returns
-returns c = search needs
-
-parts-requires : tie.Need-parts-requires
-parts-requires c κs = search needs
-
-finish-requires : tie.Need-finish-requires
-finish-requires c κs = search needs
-
 returns-2 : tie.Need-returns-2
 unfolding crcOf
 returns-2 c = c .finish .ensures ∙ ap (λ (x : ℕ). bitXor x allOnes) (c .before .parts .ensures)
 
 pub measure-crc-parts-spec : {M : Type 1} → statement M
 measure-crc-parts-spec =
-    tie.close (tie.spec crc32-requires returns parts-requires finish-requires returns-2)
+    tie.close (tie.spec (λ c κs. search needs) (λ c. search needs) (λ c κs. search needs) (λ c κs. search needs) returns-2)

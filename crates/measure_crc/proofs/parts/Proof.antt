@@ -18,32 +18,8 @@ Inv-loop bytes size c₀ i₀ c i = (i ≤ length bytes) × (bytesIn c (drop i b
 abbrev μ-loop : tie.MeasureT-loop
 μ-loop bytes size c₀ i₀ c i = length bytes - i
 
-start-requires : tie.Need-start-requires Inv-loop μ-loop
-start-requires c κs = search needs
-
 loop-holds : tie.Need-loop-holds Inv-loop μ-loop
 loop-holds c = (search needs, ap (λ (x : ℕ). bytesIn x (now (c .before .before .args .bytes))) (c .start .ensures))
-
-sub-loop : tie.Need-sub-loop Inv-loop μ-loop
-sub-loop c = search needs
-
-add-e : tie.Need-add-e Inv-loop μ-loop
-add-e c = search needs
-
-sub-part : tie.Need-sub-part Inv-loop μ-loop
-sub-part c = search needs
-
-part-part-start : tie.Need-part-part-start Inv-loop μ-loop
-part-part-start c = search needs
-
-part-part-end : tie.Need-part-part-end Inv-loop μ-loop
-part-part-end c = search needs
-
-part-requires : tie.Need-part-requires Inv-loop μ-loop
-part-requires c κs = search needs
-
-loop-less : tie.Need-loop-less Inv-loop μ-loop
-loop-less c = search needs
 
 loop-again : tie.Need-loop-again Inv-loop μ-loop
 loop-again c =
@@ -56,18 +32,6 @@ loop-again c =
           ∙ onward (a .size) (l .i) (l .c) s
           ∙ l .inv .1,
     )
-
-sub-part-2 : tie.Need-sub-part-2 Inv-loop μ-loop
-sub-part-2 c = search needs
-
-part-part-start-2 : tie.Need-part-part-start-2 Inv-loop μ-loop
-part-part-start-2 c = search needs
-
-part-part-end-2 : tie.Need-part-part-end-2 Inv-loop μ-loop
-part-part-end-2 c = search needs
-
-part-requires-2 : tie.Need-part-requires-2 Inv-loop μ-loop
-part-requires-2 c κs = search needs
 
 returns : tie.Need-returns Inv-loop μ-loop
 returns c =
@@ -83,18 +47,18 @@ parts-spec =
     (tie.spec
     Inv-loop
     μ-loop
-    start-requires
+    (λ c κs. search needs)
     loop-holds
-    sub-loop
-    add-e
-    sub-part
-    part-part-start
-    part-part-end
-    part-requires
-    loop-less
+    (λ c. search needs)
+    (λ c. search needs)
+    (λ c. search needs)
+    (λ c. search needs)
+    (λ c. search needs)
+    (λ c κs. search needs)
+    (λ c. search needs)
     loop-again
-    sub-part-2
-    part-part-start-2
-    part-part-end-2
-    part-requires-2
+    (λ c. search needs)
+    (λ c. search needs)
+    (λ c. search needs)
+    (λ c κs. search needs)
     returns)

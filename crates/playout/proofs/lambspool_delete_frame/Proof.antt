@@ -26,27 +26,6 @@ returns-2 c =
     let short = lt-ltb _ _ (c .if2 .taken) in
     (simp (some, short), simp (some, short))
 
-sub-write-delete : tie.Need-sub-write-delete
-sub-write-delete c = search needs
-
-part-write-delete-start : tie.Need-part-write-delete-start
-part-write-delete-start c = search needs
-
-part-write-delete-end : tie.Need-part-write-delete-end
-part-write-delete-end c = search needs
-
-write-delete-requires : tie.Need-write-delete-requires
-write-delete-requires c κs = search needs
-
-sub-seal : tie.Need-sub-seal
-sub-seal c = search needs
-
-seal-requires : tie.Need-seal-requires
-seal-requires c κs = search needs
-
-same-length : tie.Need-same-length
-same-length c = search needs
-
 returns-3 : tie.Need-returns-3
 returns-3 c =
     let a = c .before .before .before .before .before .before .before .before .before .before .before .args in
@@ -67,11 +46,11 @@ lambspool-delete-frame-spec =
     (tie.spec
     returns
     returns-2
-    sub-write-delete
-    part-write-delete-start
-    part-write-delete-end
-    write-delete-requires
-    sub-seal
-    seal-requires
-    same-length
+    (λ c. search needs)
+    (λ c. search needs)
+    (λ c. search needs)
+    (λ c κs. search needs)
+    (λ c. search needs)
+    (λ c κs. search needs)
+    (λ c. search needs)
     returns-3)

@@ -3,11 +3,8 @@ use borrow.Author.Needs.{needs}
 use Rattle.playout.proofs.lambspool_is_utf8.Statement.{statement}
 use Rattle.playout.proofs.lambspool_is_utf8.Tie as tie
 
-is-utf8-requires : tie.Need-is-utf8-requires
-is-utf8-requires c κs = search needs
-
 returns : tie.Need-returns
 returns c = c .is-utf8 .ensures
 
 pub lambspool-is-utf8-spec : {M : Type 1} → statement M
-lambspool-is-utf8-spec = tie.close (tie.spec is-utf8-requires returns)
+lambspool-is-utf8-spec = tie.close (tie.spec (λ c κs. search needs) returns)

@@ -7,12 +7,6 @@ use Rattle.rng.specs.Rng.{rngState, rngStep}
 use Rattle.rng.proofs.rng_state.Statement.{statement}
 use Rattle.rng.proofs.rng_state.Tie as tie
 
-wrapping-mul-requires : tie.Need-wrapping-mul-requires
-wrapping-mul-requires c κs = search needs
-
-wrapping-add-u64-requires : tie.Need-wrapping-add-u64-requires
-wrapping-add-u64-requires c κs = search needs
-
 returns : tie.Need-returns
 unfolding rngState
 returns c =
@@ -23,4 +17,4 @@ returns c =
     ∙ add-mod-mod (a .seed) (a .count * rngStep) (2 ^ 64)
 
 pub rng-state-spec : {M : Type 1} → statement M
-rng-state-spec = tie.close (tie.spec wrapping-mul-requires wrapping-add-u64-requires returns)
+rng-state-spec = tie.close (tie.spec (λ c κs. search needs) (λ c κs. search needs) returns)

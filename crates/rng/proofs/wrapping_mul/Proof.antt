@@ -16,15 +16,6 @@ mul-first c = record { fits = product-below 4294967296 (lit< tt) (search needs) 
 mul-second : tie.Need-mul-second
 mul-second c = record { fits = product-below 4294967296 (lit< tt) (search needs) (search needs) }
 
-add-cross : tie.Need-add-cross
-add-cross c = search needs
-
-mul-wrapping-add-u64 : tie.Need-mul-wrapping-add-u64
-mul-wrapping-add-u64 c = search needs
-
-wrapping-add-u64-requires : tie.Need-wrapping-add-u64-requires
-wrapping-add-u64-requires c κs = search needs
-
 returns : tie.Need-returns
 returns c =
     let a = c .before .args .a in
@@ -42,7 +33,7 @@ wrapping-mul-spec =
     mul-low
     mul-first
     mul-second
-    add-cross
-    mul-wrapping-add-u64
-    wrapping-add-u64-requires
+    (λ c. search needs)
+    (λ c. search needs)
+    (λ c κs. search needs)
     returns)

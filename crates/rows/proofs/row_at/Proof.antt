@@ -4,30 +4,6 @@ use Rattle.rows.specs.Rows.{rowAt}
 use Rattle.rows.proofs.row_at.Statement.{statement}
 use Rattle.rows.proofs.row_at.Tie as tie
 
-cast-at : tie.Need-cast-at
-cast-at c = search needs
-
-mul-at : tie.Need-mul-at
-mul-at c = search needs
-
-mul-t4 : tie.Need-mul-t4
-mul-t4 c = search needs
-
-shared-slice-read-t6 : tie.Need-shared-slice-read-t6
-shared-slice-read-t6 c = search needs
-
-add-unpack : tie.Need-add-unpack
-add-unpack c = search needs
-
-mul-unpack : tie.Need-mul-unpack
-mul-unpack c = search needs
-
-shared-slice-read-unpack : tie.Need-shared-slice-read-unpack
-shared-slice-read-unpack c = search needs
-
-unpack-requires : tie.Need-unpack-requires
-unpack-requires c κs = search needs
-
 returns : tie.Need-returns
 unfolding rowAt
 returns c = search needs
@@ -36,12 +12,12 @@ pub row-at-spec : {M : Type 1} → statement M
 row-at-spec =
     tie.close
     (tie.spec
-    cast-at
-    mul-at
-    mul-t4
-    shared-slice-read-t6
-    add-unpack
-    mul-unpack
-    shared-slice-read-unpack
-    unpack-requires
+    (λ c. search needs)
+    (λ c. search needs)
+    (λ c. search needs)
+    (λ c. search needs)
+    (λ c. search needs)
+    (λ c. search needs)
+    (λ c. search needs)
+    (λ c κs. search needs)
     returns)

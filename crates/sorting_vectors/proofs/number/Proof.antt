@@ -16,24 +16,6 @@ Inv-loop active₀ i₀ v₀ active i v = (i ≤ length active₀) × (length ac
 abbrev μ-loop : tie.MeasureT-loop
 μ-loop active₀ i₀ v₀ active i v = length active₀ - i
 
-loop-holds : tie.Need-loop-holds Inv-loop μ-loop
-loop-holds c = search needs
-
-mul-active : tie.Need-mul-active Inv-loop μ-loop
-mul-active c = search needs
-
-slice-write-active : tie.Need-slice-write-active Inv-loop μ-loop
-slice-write-active c = search needs
-
-add-v : tie.Need-add-v Inv-loop μ-loop
-add-v c = search needs
-
-add-i : tie.Need-add-i Inv-loop μ-loop
-add-i c = search needs
-
-loop-less : tie.Need-loop-less Inv-loop μ-loop
-loop-less c = search needs
-
 loop-again : tie.Need-loop-again Inv-loop μ-loop
 loop-again c =
     let l = c .before .loop in
@@ -47,9 +29,6 @@ loop-again c =
           (getD-set-same (l .active) (l .i) (l .v) 0 within ∙ number),
     )
 
-same-length : tie.Need-same-length Inv-loop μ-loop
-same-length c = search needs
-
 returns : tie.Need-returns Inv-loop μ-loop
 returns c i h = c .before .loop .inv .3 i (omega arith)
 
@@ -59,12 +38,12 @@ number-spec =
     (tie.spec
     Inv-loop
     μ-loop
-    loop-holds
-    mul-active
-    slice-write-active
-    add-v
-    add-i
-    loop-less
+    (λ c. search needs)
+    (λ c. search needs)
+    (λ c. search needs)
+    (λ c. search needs)
+    (λ c. search needs)
+    (λ c. search needs)
     loop-again
-    same-length
+    (λ c. search needs)
     returns)

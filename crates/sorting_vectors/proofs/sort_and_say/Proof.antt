@@ -9,15 +9,6 @@ use Rattle.sorting.proofs.CallerLaws.{sorted-in-rows}
 use Rattle.sorting_vectors.proofs.sort_and_say.Tie as tie
 use Rattle.sorting_vectors.proofs.sort_and_say.Statement.{statement}
 
-is-rising-requires : tie.Need-is-rising-requires
-is-rising-requires c κs = search needs
-
-say-requires : tie.Need-say-requires
-say-requires c κs = search needs
-
-sort-by-id-requires : tie.Need-sort-by-id-requires
-sort-by-id-requires c κs = search needs
-
 say-sorted-requires : tie.Need-say-sorted-requires
 say-sorted-requires c κs =
     let s = c .before .before .before .before .before .before .before .before .before .before in
@@ -25,19 +16,13 @@ say-sorted-requires c κs =
     let room : s .args .n ≤ length (p .last .1 .0) = omega (arith, p .kept .1 .0, s .pre .0) in
     (room, sorted-in-rows (now (s .args .rows)) (s .args .n) (now (s .args .active)) (p .last .1 .0) (p .ensures) room (s .pre .1))
 
-same-length : tie.Need-same-length
-same-length c = search needs
-
-returns : tie.Need-returns
-returns c = search needs
-
 pub sort-and-say-spec : {M : Type 1} → statement M
 sort-and-say-spec =
     tie.close
     (tie.spec
-    is-rising-requires
-    say-requires
-    sort-by-id-requires
+    (λ c κs. search needs)
+    (λ c κs. search needs)
+    (λ c κs. search needs)
     say-sorted-requires
-    same-length
-    returns)
+    (λ c. search needs)
+    (λ c. search needs))

@@ -12,12 +12,6 @@ behind at n = omega arith
 add-end : tie.Need-add-end
 add-end c = let h = rw (c .before .if1 .taken) at (c .before .before .pre) in omega arith
 
-sub-result : tie.Need-sub-result
-sub-result c = search needs
-
-part-result-start : tie.Need-part-result-start
-part-result-start c = search needs
-
 part-result-end : tie.Need-part-result-end
 part-result-end c = let h = rw (c .before .if1 .taken) at (c .before .before .pre) in omega arith
 
@@ -26,12 +20,6 @@ returns c = let t = c .before .before .if1 .taken in (simp (behind, t), simp t)
 
 add-end-2 : tie.Need-add-end-2
 add-end-2 c = let h = rw (c .before .if1 .left) at (c .before .before .pre) in omega arith
-
-sub-result-2 : tie.Need-sub-result-2
-sub-result-2 c = search needs
-
-part-result-start-2 : tie.Need-part-result-start-2
-part-result-start-2 c = search needs
 
 part-result-end-2 : tie.Need-part-result-end-2
 part-result-end-2 c = let h = rw (c .before .if1 .left) at (c .before .before .pre) in omega arith
@@ -44,12 +32,12 @@ cut-spec =
     tie.close
     (tie.spec
     add-end
-    sub-result
-    part-result-start
+    (λ c. search needs)
+    (λ c. search needs)
     part-result-end
     returns
     add-end-2
-    sub-result-2
-    part-result-start-2
+    (λ c. search needs)
+    (λ c. search needs)
     part-result-end-2
     returns-2)

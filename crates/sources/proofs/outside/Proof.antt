@@ -16,9 +16,6 @@ sub-ltb n at k h = by (ltb (n - at) k) refl
     by true e = sym (lt-ltb n (at + k) (omega (arith, ltb-true (n - at) k e)))
     by false e = sym (le-ltb n (at + k) (omega (arith, ltb-false (n - at) k e)))
 
-source-length-requires : tie.Need-source-length-requires
-source-length-requires c κs = search needs
-
 returns : tie.Need-returns
 returns c =
     let p = c .before .before .before .before .before .args .part in
@@ -32,4 +29,4 @@ returns-2 c =
     sub-ltb n (p .at) (p .count) (omega arith) ∙ ap (λ (k : ℕ). ltb k (p .at + p .count)) (c .before .before .before .before .source-length .ensures)
 
 pub outside-spec : {M : Type 1} → statement M
-outside-spec = tie.close (tie.spec source-length-requires returns returns-2)
+outside-spec = tie.close (tie.spec (λ c κs. search needs) returns returns-2)

@@ -35,24 +35,12 @@ take-up-requires c κs =
     = subst (λ (r : List ℕ). Once r (l .tree .count + 1)) (sym (l .inv .3)) (once-less (plainRows (now (a .words))) (a .count) (l .tree .count + 1) (omega arith) (s .pre .1 .1 .1)) in
     (l .inv .0, (record { words-room = omega arith; entries-room = omega arith; fewer = omega arith }, once))
 
-add-taken : tie.Need-add-taken Inv-loop μ-loop
-add-taken c = search needs
-
-loop-less : tie.Need-loop-less Inv-loop μ-loop
-loop-less c = search needs
-
 loop-again : tie.Need-loop-again Inv-loop μ-loop
 loop-again c =
     let l = c .before .before .before .before .before .before .before .before .loop in
     let p = c .before .before .before .before .take-up in
     let e = p .ensures in
     (e .grown, (e .counted ∙ ap (λ (n : ℕ). n + 1) (l .inv .1)), omega arith, (e .rows ∙ l .inv .3), (p .kept .0 ∙ l .inv .4), (p .kept .1 .0 ∙ l .inv .5))
-
-same-length : tie.Need-same-length Inv-loop μ-loop
-same-length c = search needs
-
-same-length-2 : tie.Need-same-length-2 Inv-loop μ-loop
-same-length-2 c = search needs
 
 returns : tie.Need-returns Inv-loop μ-loop
 returns c =
@@ -68,9 +56,9 @@ begin-spec =
     μ-loop
     loop-holds
     take-up-requires
-    add-taken
-    loop-less
+    (λ c. search needs)
+    (λ c. search needs)
     loop-again
-    same-length
-    same-length-2
+    (λ c. search needs)
+    (λ c. search needs)
     returns)

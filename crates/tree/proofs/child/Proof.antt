@@ -8,17 +8,8 @@ use Rattle.tree.proofs.child.Tie as tie
 returns : tie.Need-returns
 returns c = simp (eq-eqb _ _ (c .if1 .taken))
 
-mul-link-at : tie.Need-mul-link-at
-mul-link-at c = search needs
-
-add-link-at : tie.Need-add-link-at
-add-link-at c = search needs
-
-link-at-requires : tie.Need-link-at-requires
-link-at-requires c κs = search needs
-
 returns-2 : tie.Need-returns-2
 returns-2 c = simp (ne-eqb _ _ (c .before .if1 .left)) (c .link-at .ensures)
 
 pub child-spec : {M : Type 1} → statement M
-child-spec = tie.close (tie.spec returns mul-link-at add-link-at link-at-requires returns-2)
+child-spec = tie.close (tie.spec returns (λ c. search needs) (λ c. search needs) (λ c κs. search needs) returns-2)

@@ -41,39 +41,6 @@ one-more words i h all k l = go (same k i)
 loop-holds : tie.Need-loop-holds Inv-loop μ-loop
 loop-holds c = (refl, refl, λ k h. absurd (omega arith))
 
-mul-plain : tie.Need-mul-plain Inv-loop μ-loop
-mul-plain c = search needs
-
-add-plain : tie.Need-add-plain Inv-loop μ-loop
-add-plain c = search needs
-
-mul-plain-2 : tie.Need-mul-plain-2 Inv-loop μ-loop
-mul-plain-2 c = search needs
-
-slice-read-plain : tie.Need-slice-read-plain Inv-loop μ-loop
-slice-read-plain c = search needs
-
-plain-requires : tie.Need-plain-requires Inv-loop μ-loop
-plain-requires c κs = search needs
-
-mul-words : tie.Need-mul-words Inv-loop μ-loop
-mul-words c = search needs
-
-add-words : tie.Need-add-words Inv-loop μ-loop
-add-words c = search needs
-
-mul-words-2 : tie.Need-mul-words-2 Inv-loop μ-loop
-mul-words-2 c = search needs
-
-slice-write-words : tie.Need-slice-write-words Inv-loop μ-loop
-slice-write-words c = search needs
-
-add-i : tie.Need-add-i Inv-loop μ-loop
-add-i c = search needs
-
-loop-less : tie.Need-loop-less Inv-loop μ-loop
-loop-less c = simp length-set (omega arith)
-
 loop-again : tie.Need-loop-again Inv-loop μ-loop
 loop-again c =
     let l = c .before .before .before .loop in
@@ -81,9 +48,6 @@ loop-again c =
     subst (λ (x : ℕ). (length (set (l .words) (2 * l .i + 1) x) ≡ length (now (c .before .before .before .before .before .args .words))) × (plainRows (set (l .words) (2 * l .i + 1) x) ≡ plainRows (now (c .before .before .before .before .before .args .words)))
     × ((k : ℕ) → k < l .i + 1 → plainWord (getD (set (l .words) (2 * l .i + 1) x) (2 * k + 1) 0) ≡ getD (set (l .words) (2 * l .i + 1) x) (2 * k + 1) 0)) (sym e)
     (length-set (l .words) (2 * l .i + 1) (plainWord (getD (l .words) (2 * l .i + 1) 0)) ∙ l .inv .0, out-rows (l .words) (l .i) ∙ l .inv .1, one-more (l .words) (l .i) (omega arith) (l .inv .2))
-
-same-length : tie.Need-same-length Inv-loop μ-loop
-same-length c = search needs
 
 returns : tie.Need-returns Inv-loop μ-loop
 returns c =
@@ -98,17 +62,17 @@ clear-spec =
     Inv-loop
     μ-loop
     loop-holds
-    mul-plain
-    add-plain
-    mul-plain-2
-    slice-read-plain
-    plain-requires
-    mul-words
-    add-words
-    mul-words-2
-    slice-write-words
-    add-i
-    loop-less
+    (λ c. search needs)
+    (λ c. search needs)
+    (λ c. search needs)
+    (λ c. search needs)
+    (λ c κs. search needs)
+    (λ c. search needs)
+    (λ c. search needs)
+    (λ c. search needs)
+    (λ c. search needs)
+    (λ c. search needs)
+    (λ c. simp length-set (omega arith))
     loop-again
-    same-length
+    (λ c. search needs)
     returns)

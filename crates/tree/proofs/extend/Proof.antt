@@ -10,18 +10,6 @@ use Rattle.tree.proofs.FrontLaws.{extended}
 use Rattle.tree.proofs.extend.Statement.{statement}
 use Rattle.tree.proofs.extend.Tie as tie
 
-write-row-requires : tie.Need-write-row-requires
-write-row-requires c κs = search needs
-
-add-t10 : tie.Need-add-t10
-add-t10 c = search needs
-
-add-t11 : tie.Need-add-t11
-add-t11 c = search needs
-
-same-length : tie.Need-same-length
-same-length c = search needs
-
 returns : tie.Need-returns
 returns c =
     let s = c .before .before .before .before .before .before in
@@ -34,4 +22,4 @@ returns c =
     (c .before .before .write-row .ensures) refl (add-one _) (add-one _) (omega (arith, x .whole)) (r .fewer) (r .words-room) (r .entries-room) (x .over) (s .pre .1 .1 .1)
 
 pub extend-spec : {M : Type 1} → statement M
-extend-spec = tie.close (tie.spec write-row-requires add-t10 add-t11 same-length returns)
+extend-spec = tie.close (tie.spec (λ c κs. search needs) (λ c. search needs) (λ c. search needs) (λ c. search needs) returns)

@@ -13,12 +13,6 @@ use Rattle.tree.proofs.FindLaws.{finds-live, finds-front, none-front}
 use Rattle.tree.proofs.find.Statement.{statement}
 use Rattle.tree.proofs.find.Tie as tie
 
-search-requires : tie.Need-search-requires
-search-requires c κs = search needs
-
-in-front-requires : tie.Need-in-front-requires
-in-front-requires c κs = search needs
-
 returns : tie.Need-returns
 returns c =
     let s = c .before .before .before .before .before in
@@ -49,4 +43,4 @@ returns-2 c =
 
 pub find-spec : {M : Type 1} → statement M
 find-spec =
-    tie.close (tie.spec search-requires in-front-requires returns in-cell-requires returns-2)
+    tie.close (tie.spec (λ c κs. search needs) (λ c κs. search needs) returns in-cell-requires returns-2)

@@ -12,21 +12,6 @@ use Rattle.links.proofs.PlainLaws.{plain-take}
 use Rattle.tree.proofs.finish.Statement.{statement}
 use Rattle.tree.proofs.finish.Tie as tie
 
-mul-end : tie.Need-mul-end
-mul-end c = search needs
-
-slice-relend-prefix-clear : tie.Need-slice-relend-prefix-clear
-slice-relend-prefix-clear c = search needs
-
-slice-aggregate-clear : tie.Need-slice-aggregate-clear
-slice-aggregate-clear c = sym (length-take-le _ _ (omega arith))
-
-clear-requires : tie.Need-clear-requires
-clear-requires c κs = search needs
-
-same-length : tie.Need-same-length
-same-length c = search needs
-
 returns : tie.Need-returns
 returns c =
     let a = c .before .before .before .before .before .before .args in
@@ -37,9 +22,9 @@ pub finish-spec : {M : Type 1} → statement M
 finish-spec =
     tie.close
     (tie.spec
-    mul-end
-    slice-relend-prefix-clear
-    slice-aggregate-clear
-    clear-requires
-    same-length
+    (λ c. search needs)
+    (λ c. search needs)
+    (λ c. sym (length-take-le _ _ (omega arith)))
+    (λ c κs. search needs)
+    (λ c. search needs)
     returns)

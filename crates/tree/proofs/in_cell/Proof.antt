@@ -44,9 +44,6 @@ mul-if2 c =
     let l = c .before .before .before .before .pre .0 .few in
     omega arith
 
-sub-if2 : tie.Need-sub-if2
-sub-if2 c = search needs
-
 mul-if2-2 : tie.Need-mul-if2-2
 mul-if2-2 c =
     let h = in-table (c .before) in
@@ -82,7 +79,7 @@ in-cell-spec =
     link-at-requires
     returns
     mul-if2
-    sub-if2
+    (λ c. search needs)
     mul-if2-2
     shared-slice-read-if2
     returns-2

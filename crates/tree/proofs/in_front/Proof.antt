@@ -14,23 +14,11 @@ use Rattle.tree.proofs.FrontLaws.{front-absent}
 use Rattle.tree.proofs.in_front.Statement.{statement}
 use Rattle.tree.proofs.in_front.Tie as tie
 
-lower-bound-requires : tie.Need-lower-bound-requires
-lower-bound-requires c κs = search needs
-
 returns : tie.Need-returns
 returns c =
     let s = c .before .before .before in
     let a = s .args in
     none (front-absent (plainRows (now (a .words))) (a .sorted) (a .id) (s .pre .1) (c .before .lower-bound .result) (c .before .lower-bound .ensures) (λ h l e. absurd (omega arith)))
-
-mul-if2 : tie.Need-mul-if2
-mul-if2 c = search needs
-
-mul-if2-2 : tie.Need-mul-if2-2
-mul-if2-2 c = search needs
-
-shared-slice-read-if2 : tie.Need-shared-slice-read-if2
-shared-slice-read-if2 c = search needs
 
 returns-2 : tie.Need-returns-2
 returns-2 c =
@@ -39,27 +27,12 @@ returns-2 c =
     none (front-absent (plainRows (now (a .words))) (a .sorted) (a .id) (s .pre .1) (c .before .before .before .lower-bound .result) (c .before .before .before .lower-bound .ensures)
     (λ h l e. c .if2 .taken (sym (next-id (now (a .words)) (c .before .before .before .lower-bound .result)) ∙ e)))
 
-mul-if3 : tie.Need-mul-if3
-mul-if3 c = search needs
-
-add-if3 : tie.Need-add-if3
-add-if3 c = search needs
-
-mul-if3-2 : tie.Need-mul-if3-2
-mul-if3-2 c = search needs
-
-shared-slice-read-if3 : tie.Need-shared-slice-read-if3
-shared-slice-read-if3 c = search needs
-
 returns-3 : tie.Need-returns-3
 returns-3 c =
     let s = c .before .before .before .before .before .before .before in
     let a = s .args in
     none (front-absent (plainRows (now (a .words))) (a .sorted) (a .id) (s .pre .1) (c .before .before .before .before .before .lower-bound .result) (c .before .before .before .before .before .lower-bound .ensures)
     (λ h l e. (let k = next-live (now (a .words)) (c .before .before .before .before .before .lower-bound .result) l in omega (arith, c .if3 .taken))))
-
-add-result : tie.Need-add-result
-add-result c = search needs
 
 returns-4 : tie.Need-returns-4
 returns-4 c =
@@ -75,16 +48,16 @@ pub in-front-spec : {M : Type 1} → statement M
 in-front-spec =
     tie.close
     (tie.spec
-    lower-bound-requires
+    (λ c κs. search needs)
     returns
-    mul-if2
-    mul-if2-2
-    shared-slice-read-if2
+    (λ c. search needs)
+    (λ c. search needs)
+    (λ c. search needs)
     returns-2
-    mul-if3
-    add-if3
-    mul-if3-2
-    shared-slice-read-if3
+    (λ c. search needs)
+    (λ c. search needs)
+    (λ c. search needs)
+    (λ c. search needs)
     returns-3
-    add-result
+    (λ c. search needs)
     returns-4)

@@ -19,15 +19,6 @@ splice-requires c κs =
     let i = cell-inside (a .tree) (now (a .words)) (now (a .entries)) g (λ i. omega (arith, c .before .before .before .slice-known .given i)) (a .id) in
     (g, (s .pre .1 .0, subst (λ (z : ℕ). Inside (a .tree .sorted) (a .tree .count) z) (sym (s .pre .1 .1 .1 .0)) i))
 
-add-t12 : tie.Need-add-t12
-add-t12 c = search needs
-
-same-length : tie.Need-same-length
-same-length c = search needs
-
-same-length-2 : tie.Need-same-length-2
-same-length-2 c = search needs
-
 returns : tie.Need-returns
 returns c =
     let s = c .before .before .before .before .before .before .before .before .before .before in
@@ -40,4 +31,4 @@ returns c =
     (add-one _) refl (s .pre .1 .1 .0) (r .fewer) (r .words-room) (p .kept .0) (r .entries-room) (p .kept .1 .0) (omega (arith, s .fits .id)) (s .pre .1 .1 .1 .0) (s .pre .1 .1 .1 .1) (p .ensures)
 
 pub insert-spec : {M : Type 1} → statement M
-insert-spec = tie.close (tie.spec splice-requires add-t12 same-length same-length-2 returns)
+insert-spec = tie.close (tie.spec splice-requires (λ c. search needs) (λ c. search needs) (λ c. search needs) returns)

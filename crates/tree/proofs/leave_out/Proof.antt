@@ -12,48 +12,6 @@ use Rattle.tree.proofs.SkipLaws.{left-out, out-rows}
 use Rattle.tree.proofs.leave_out.Statement.{statement}
 use Rattle.tree.proofs.leave_out.Tie as tie
 
-mul-plain : tie.Need-mul-plain
-mul-plain c = search needs
-
-add-plain : tie.Need-add-plain
-add-plain c = search needs
-
-mul-plain-2 : tie.Need-mul-plain-2
-mul-plain-2 c = search needs
-
-slice-read-plain : tie.Need-slice-read-plain
-slice-read-plain c = search needs
-
-plain-requires : tie.Need-plain-requires
-plain-requires c κs = search needs
-
-mul-words : tie.Need-mul-words
-mul-words c = search needs
-
-add-words : tie.Need-add-words
-add-words c = search needs
-
-mul-words-2 : tie.Need-mul-words-2
-mul-words-2 c = search needs
-
-slice-write-words : tie.Need-slice-write-words
-slice-write-words c = search needs
-
-mul-entries : tie.Need-mul-entries
-mul-entries c = search needs
-
-slice-write-entries : tie.Need-slice-write-entries
-slice-write-entries c = search needs
-
-add-t13 : tie.Need-add-t13
-add-t13 c = search needs
-
-same-length : tie.Need-same-length
-same-length c = search needs
-
-same-length-2 : tie.Need-same-length-2
-same-length-2 c = search needs
-
 returns : tie.Need-returns
 returns c =
     let s = c .before .before .before .before in
@@ -74,18 +32,18 @@ pub leave-out-spec : {M : Type 1} → statement M
 leave-out-spec =
     tie.close
     (tie.spec
-    mul-plain
-    add-plain
-    mul-plain-2
-    slice-read-plain
-    plain-requires
-    mul-words
-    add-words
-    mul-words-2
-    slice-write-words
-    mul-entries
-    slice-write-entries
-    add-t13
-    same-length
-    same-length-2
+    (λ c. search needs)
+    (λ c. search needs)
+    (λ c. search needs)
+    (λ c. search needs)
+    (λ c κs. search needs)
+    (λ c. search needs)
+    (λ c. search needs)
+    (λ c. search needs)
+    (λ c. search needs)
+    (λ c. search needs)
+    (λ c. search needs)
+    (λ c. search needs)
+    (λ c. search needs)
+    (λ c. search needs)
     returns)

@@ -24,39 +24,6 @@ returns c =
     let f : captionFreed words u ≡ 0 = simp (eq-eqb _ _ (c .if1 .taken)) in
     subst₂ (λ (l : List ℕ) (r : ℕ). Marked words l u r) (marked-none words u (c .if1 .taken)) f (marks words u (s .pre))
 
-mul-word : tie.Need-mul-word
-mul-word c = search needs
-
-sub-word : tie.Need-sub-word
-sub-word c = search needs
-
-mul-word-2 : tie.Need-mul-word-2
-mul-word-2 c = search needs
-
-slice-read-word : tie.Need-slice-read-word
-slice-read-word c = search needs
-
-deleted-word-requires : tie.Need-deleted-word-requires
-deleted-word-requires c κs = search needs
-
-mul-words : tie.Need-mul-words
-mul-words c = search needs
-
-sub-words : tie.Need-sub-words
-sub-words c = search needs
-
-mul-words-2 : tie.Need-mul-words-2
-mul-words-2 c = search needs
-
-slice-write-words : tie.Need-slice-write-words
-slice-write-words c = search needs
-
-caption-length-requires : tie.Need-caption-length-requires
-caption-length-requires c κs = search needs
-
-same-length : tie.Need-same-length
-same-length c = search needs
-
 returns-2 : tie.Need-returns-2
 unfolding captionFreed
 returns-2 c =
@@ -73,15 +40,15 @@ mark-spec =
     tie.close
     (tie.spec
     returns
-    mul-word
-    sub-word
-    mul-word-2
-    slice-read-word
-    deleted-word-requires
-    mul-words
-    sub-words
-    mul-words-2
-    slice-write-words
-    caption-length-requires
-    same-length
+    (λ c. search needs)
+    (λ c. search needs)
+    (λ c. search needs)
+    (λ c. search needs)
+    (λ c κs. search needs)
+    (λ c. search needs)
+    (λ c. search needs)
+    (λ c. search needs)
+    (λ c. search needs)
+    (λ c κs. search needs)
+    (λ c. search needs)
     returns-2)

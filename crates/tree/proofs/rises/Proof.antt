@@ -22,24 +22,6 @@ by-test words t id true e f p =
     record { whole = f; over = λ q. subst (λ (x : ℕ). x < id) (sym (id-of-link words (t .count))) (ltb-true _ _ e) }
 by-test words t id false e f p = p
 
-returns : tie.Need-returns
-returns c = search needs
-
-returns-2 : tie.Need-returns-2
-returns-2 c = search needs
-
-mul-result : tie.Need-mul-result
-mul-result c = search needs
-
-sub-result : tie.Need-sub-result
-sub-result c = search needs
-
-mul-result-2 : tie.Need-mul-result-2
-mul-result-2 c = search needs
-
-shared-slice-read-result : tie.Need-shared-slice-read-result
-shared-slice-read-result c = search needs
-
 returns-3 : tie.Need-returns-3
 returns-3 c =
     let s = c .before .before .before .before in
@@ -52,10 +34,10 @@ pub rises-spec : {M : Type 1} → statement M
 rises-spec =
     tie.close
     (tie.spec
-    returns
-    returns-2
-    mul-result
-    sub-result
-    mul-result-2
-    shared-slice-read-result
+    (λ c. search needs)
+    (λ c. search needs)
+    (λ c. search needs)
+    (λ c. search needs)
+    (λ c. search needs)
+    (λ c. search needs)
     returns-3)

@@ -5,6 +5,7 @@ use native.Mathlib.Omega.{arith}
 use mathlib.Core.Path.{_≡_, refl, sym, ap, ap₂, _∙_, subst}
 use borrow.Author.Needs.{needs}
 use denote.Ref.{now}
+use Rattle.config.specs.Limits.{maxRecords}
 use Rattle.digital_tree.specs.Look.{mixedId, bitAt, look, Inside}
 use Rattle.digital_tree.proofs.LookLaws.{look-empty, look-here, look-turn, look-over}
 use Rattle.digital_tree.proofs.ShapeLaws.{cells-inside}
@@ -33,8 +34,8 @@ link-is c =
 in-table : (c : tie.After-link-at Inv-loop μ-loop) → c .link-at .result ≤ c .before .before .before .before .before .before .args .tree .count
 in-table c = subst (λ (x : ℕ). x ≤ c .before .before .before .before .before .before .args .tree .count) (link-is c) (c .before .before .before .before .before .before .pre .shape .within (c .before .before .loop .cell))
 
-mixed-requires : tie.Need-mixed-requires Inv-loop μ-loop
-mixed-requires c κs = search needs
+few : (c : tie.After-link-at Inv-loop μ-loop) → c .link-at .result ≤ maxRecords
+few c = omega (arith, in-table c, c .before .before .before .before .before .before .pre .few)
 
 loop-holds : tie.Need-loop-holds Inv-loop μ-loop
 unfolding cellOf
@@ -60,30 +61,6 @@ returns c =
     let e = link-is (c .before) ∙ c .if1 .taken in
     sym (look-empty mixedId (idOf (plainRows (now (a .words)))) (linkOf (a .tree) (now (a .words)) (now (a .entries))) (l .left) (l .cell) (a .id) e) ∙ l .inv .2
 
-mul-if2 : tie.Need-mul-if2 Inv-loop μ-loop
-mul-if2 c =
-    let h = in-table (c .before) in
-    let l = c .before .before .before .before .before .before .before .pre .few in
-    omega arith
-
-sub-if2 : tie.Need-sub-if2 Inv-loop μ-loop
-sub-if2 c =
-    let h = in-table (c .before) in
-    let l = c .before .before .before .before .before .before .before .pre .few in
-    omega arith
-
-mul-if2-2 : tie.Need-mul-if2-2 Inv-loop μ-loop
-mul-if2-2 c =
-    let h = in-table (c .before) in
-    let l = c .before .before .before .before .before .before .before .pre .few in
-    omega arith
-
-shared-slice-read-if2 : tie.Need-shared-slice-read-if2 Inv-loop μ-loop
-shared-slice-read-if2 c =
-    let h = in-table (c .before .before) in
-    let l = c .before .before .before .before .before .before .before .before .pre .words-lent in
-    omega arith
-
 returns-2 : tie.Need-returns-2 Inv-loop μ-loop
 returns-2 c =
     let s = c .before .before .before .before .before .before .before .before .before in
@@ -91,27 +68,6 @@ returns-2 c =
     let l = c .before .before .before .before .before .loop in
     let e = ap (idOf (plainRows (now (a .words)))) (link-is (c .before .before .before)) ∙ id-of-link (now (a .words)) (c .before .before .before .link-at .result) ∙ c .if2 .taken in
     sym (look-here mixedId (idOf (plainRows (now (a .words)))) (linkOf (a .tree) (now (a .words)) (now (a .entries))) (l .left) (l .cell) (a .id) e) ∙ l .inv .2
-
-sub-left : tie.Need-sub-left Inv-loop μ-loop
-sub-left c = search needs
-
-mul-cell : tie.Need-mul-cell Inv-loop μ-loop
-mul-cell c =
-    let h = in-table (c .before .before .before) in
-    let l = c .before .before .before .before .before .before .before .before .before .pre .few in
-    omega arith
-
-bit-requires : tie.Need-bit-requires Inv-loop μ-loop
-bit-requires c κs = search needs
-
-add-cell : tie.Need-add-cell Inv-loop μ-loop
-add-cell c =
-    let h = in-table (c .before .before .before .before) in
-    let l = c .before .before .before .before .before .before .before .before .before .before .pre .few in
-    omega arith
-
-loop-less : tie.Need-loop-less Inv-loop μ-loop
-loop-less c = search needs
 
 loop-again : tie.Need-loop-again Inv-loop μ-loop
 loop-again c =
@@ -149,19 +105,19 @@ search-spec =
     (tie.spec
     Inv-loop
     μ-loop
-    mixed-requires
+    (λ c κs. search needs)
     loop-holds
     link-at-requires
     returns
-    mul-if2
-    sub-if2
-    mul-if2-2
-    shared-slice-read-if2
+    (λ c. omega (arith, few (c .before)))
+    (λ c. omega (arith, few (c .before)))
+    (λ c. omega (arith, few (c .before)))
+    (λ c. omega (arith, in-table (c .before .before), c .before .before .before .before .before .before .before .before .pre .words-lent))
     returns-2
-    sub-left
-    mul-cell
-    bit-requires
-    add-cell
-    loop-less
+    (λ c. search needs)
+    (λ c. omega (arith, few (c .before .before .before)))
+    (λ c κs. search needs)
+    (λ c. omega (arith, few (c .before .before .before .before)))
+    (λ c. search needs)
     loop-again
     returns-3)

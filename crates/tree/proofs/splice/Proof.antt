@@ -54,12 +54,6 @@ child-requires-2 c κs =
     let s = c .before .before .before .before .before .before .before .before .before .before in
     reads-child (s .args .tree) (now (s .args .words)) (now (s .args .entries)) (s .args .cell) (s .pre .0) (s .pre .1 .1) (c .before .before .before .before .before .link-at .result) (c .before .before .before .before .before .link-at .ensures) _ (omega arith)
 
-write-row-requires : tie.Need-write-row-requires
-write-row-requires c κs = search needs
-
-add-attach : tie.Need-add-attach
-add-attach c = search needs
-
 attach-requires : tie.Need-attach-requires
 attach-requires c κs =
     let s = c .before .before .before .before .before .before .before .before .before .before .before .before .before .before .before .before .before in
@@ -71,12 +65,6 @@ attach-requires c κs =
     let x = small-child (a .tree) (now (a .words)) (now (a .entries)) (a .cell) (s .pre .0) i _ (c .before .before .before .before .before .before .before .before .before .before .before .before .link-at .ensures) _ (omega arith) _ (c .before .before .before .before .before .before .before .before .before .child .ensures) in
     let y = small-child (a .tree) (now (a .words)) (now (a .entries)) (a .cell) (s .pre .0) i _ (c .before .before .before .before .before .before .before .before .before .before .before .before .link-at .ensures) _ (omega arith) _ (c .before .before .before .before .before .before .child2 .ensures) in
     (not-one (a .tree .sorted) (a .tree .count) (a .cell) i, (omega arith, (omega (arith, r .words-room), (omega (arith, r .entries-room), (omega (arith, r .fewer), (x, y))))))
-
-same-length : tie.Need-same-length
-same-length c = search needs
-
-same-length-2 : tie.Need-same-length-2
-same-length-2 c = search needs
 
 returns : tie.Need-returns
 returns c =
@@ -95,9 +83,9 @@ splice-spec =
     link-at-requires
     child-requires
     child-requires-2
-    write-row-requires
-    add-attach
+    (λ c κs. search needs)
+    (λ c. search needs)
     attach-requires
-    same-length
-    same-length-2
+    (λ c. search needs)
+    (λ c. search needs)
     returns)

@@ -18,28 +18,10 @@ abbrev μ-loop : tie.MeasureT-loop
 loop-holds : tie.Need-loop-holds Inv-loop μ-loop
 loop-holds c = passes-none (now (c .before .args .s)) (c .before .args .at) (c .before .pre)
 
-sub-loop : tie.Need-sub-loop Inv-loop μ-loop
-sub-loop c = omega arith
-
-ascii-in-word-requires : tie.Need-ascii-in-word-requires Inv-loop μ-loop
-ascii-in-word-requires c κs = omega arith
-
-add-result : tie.Need-add-result Inv-loop μ-loop
-add-result c = omega arith
-
 returns : tie.Need-returns Inv-loop μ-loop
 returns c =
     let l = c .before .before .before .loop in
     passes-on (l .inv) (word-passes (now (c .before .before .before .before .before .args .s)) (l .i) (c .before .ascii-in-word .result) (omega arith) (c .before .ascii-in-word .ensures))
-
-add-after-blocks : tie.Need-add-after-blocks Inv-loop μ-loop
-add-after-blocks c = omega arith
-
-after-blocks-requires : tie.Need-after-blocks-requires Inv-loop μ-loop
-after-blocks-requires c κs = omega arith
-
-loop-less : tie.Need-loop-less Inv-loop μ-loop
-loop-less c = omega arith
 
 loop-again : tie.Need-loop-again Inv-loop μ-loop
 loop-again c =
@@ -47,9 +29,6 @@ loop-again c =
     let w = c .before .before .ascii-in-word in
     let p = word-all-passes (now (c .before .before .before .before .before .before .args .s)) (l .i) (w .result) (omega arith) (w .ensures) (c .before .if1 .left) in
     passes-on (l .inv) (passes-on p (c .after-blocks .ensures))
-
-after-bytes-requires : tie.Need-after-bytes-requires Inv-loop μ-loop
-after-bytes-requires c κs = omega arith
 
 returns-2 : tie.Need-returns-2 Inv-loop μ-loop
 returns-2 c = passes-on (c .before .before .loop .inv) (c .after-bytes .ensures)
@@ -61,13 +40,13 @@ after-words-spec =
     Inv-loop
     μ-loop
     loop-holds
-    sub-loop
-    ascii-in-word-requires
-    add-result
+    (λ c. omega arith)
+    (λ c κs. omega arith)
+    (λ c. omega arith)
     returns
-    add-after-blocks
-    after-blocks-requires
-    loop-less
+    (λ c. omega arith)
+    (λ c κs. omega arith)
+    (λ c. omega arith)
     loop-again
-    after-bytes-requires
+    (λ c κs. omega arith)
     returns-2)

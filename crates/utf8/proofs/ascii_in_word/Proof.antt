@@ -9,12 +9,6 @@ use Rattle.utf8.proofs.Words.{word-is}
 use Rattle.utf8.proofs.ascii_in_word.Statement.{statement}
 use Rattle.utf8.proofs.ascii_in_word.Tie as tie
 
-word-requires : tie.Need-word-requires
-word-requires c κs = omega arith
-
-count-requires : tie.Need-count-requires
-count-requires c κs = tt
-
 returns : tie.Need-returns
 returns c =
     let a = c .before .before .before in
@@ -23,4 +17,4 @@ returns c =
     ∙ word-is (now (a .args .s)) (a .args .i) (a .pre) (λ j. omega (arith, c .before .before .shared-slice-known .given j))
 
 pub ascii-in-word-spec : {M : Type 1} → statement M
-ascii-in-word-spec = tie.close (tie.spec word-requires count-requires returns)
+ascii-in-word-spec = tie.close (tie.spec (λ c κs. omega arith) (λ c κs. tt) returns)

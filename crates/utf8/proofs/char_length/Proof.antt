@@ -9,9 +9,6 @@ use Rattle.utf8.proofs.Shapes.{one, shape-at, lead-not}
 use Rattle.utf8.proofs.char_length.Statement.{statement}
 use Rattle.utf8.proofs.char_length.Tie as tie
 
-shared-slice-read-match : tie.Need-shared-slice-read-match
-shared-slice-read-match c = omega arith
-
 two-requires : tie.Need-two-requires
 two-requires c κs =
     let a = c .before .before .before in
@@ -37,15 +34,6 @@ returns c =
     let r = ones-0 (getD s (a .args .at) 0) (omega (arith, c .before .shared-slice-known2 .given (a .args .at))) (c .match .keys1) in
     sym (shape-at s (a .args .at) (a .pre) (one (r .at-most)))
 
-returns-2 : tie.Need-returns-2
-returns-2 c = search needs
-
-returns-3 : tie.Need-returns-3
-returns-3 c = search needs
-
-returns-4 : tie.Need-returns-4
-returns-4 c = search needs
-
 returns-5 : tie.Need-returns-5
 returns-5 c =
     let a = c .before .before .before in
@@ -58,12 +46,12 @@ pub char-length-spec : {M : Type 1} → statement M
 char-length-spec =
     tie.close
     (tie.spec
-    shared-slice-read-match
+    (λ c. omega arith)
     two-requires
     three-requires
     four-requires
     returns
-    returns-2
-    returns-3
-    returns-4
+    (λ c. search needs)
+    (λ c. search needs)
+    (λ c. search needs)
     returns-5)

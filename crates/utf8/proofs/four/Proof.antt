@@ -6,50 +6,20 @@ use Rattle.utf8.proofs.Shapes.{four, shape-at, four-not}
 use Rattle.utf8.proofs.four.Statement.{statement}
 use Rattle.utf8.proofs.four.Tie as tie
 
-sub-if1 : tie.Need-sub-if1
-sub-if1 c = omega arith
-
 returns : tie.Need-returns
 returns c = four-not (now (c .before .before .args .s)) (c .before .before .args .at) (c .before .before .pre .1) (λ h l p q r t. omega arith)
-
-shared-slice-read-a : tie.Need-shared-slice-read-a
-shared-slice-read-a c = omega arith
-
-add-b : tie.Need-add-b
-add-b c = omega arith
-
-shared-slice-read-b : tie.Need-shared-slice-read-b
-shared-slice-read-b c = omega arith
 
 returns-2 : tie.Need-returns-2
 returns-2 c = four-not (now (c .before .before .before .before .before .args .s)) (c .before .before .before .before .before .args .at) (c .before .before .before .before .before .pre .1) (λ h l p q r t. omega arith)
 
-low4-requires : tie.Need-low4-requires
-low4-requires c κs = tt
-
 returns-3 : tie.Need-returns-3
 returns-3 c = four-not (now (c .before .before .before .before .before .before .before .args .s)) (c .before .before .before .before .before .before .before .args .at) (c .before .before .before .before .before .before .before .pre .1) (λ h l p q r t. omega arith)
-
-high4-requires : tie.Need-high4-requires
-high4-requires c κs = tt
 
 returns-4 : tie.Need-returns-4
 returns-4 c = four-not (now (c .before .before .before .before .before .before .before .before .before .args .s)) (c .before .before .before .before .before .before .before .before .before .args .at) (c .before .before .before .before .before .before .before .before .before .pre .1) (λ h l p q r t. omega arith)
 
-add-if5 : tie.Need-add-if5
-add-if5 c = omega arith
-
-shared-slice-read-if5 : tie.Need-shared-slice-read-if5
-shared-slice-read-if5 c = omega arith
-
 returns-5 : tie.Need-returns-5
 returns-5 c = four-not (now (c .before .before .before .before .before .before .before .before .before .before .before .args .s)) (c .before .before .before .before .before .before .before .before .before .before .before .args .at) (c .before .before .before .before .before .before .before .before .before .before .before .pre .1) (λ h l p q r t. c .if5 .taken r)
-
-add-if6 : tie.Need-add-if6
-add-if6 c = omega arith
-
-shared-slice-read-if6 : tie.Need-shared-slice-read-if6
-shared-slice-read-if6 c = omega arith
 
 returns-6 : tie.Need-returns-6
 returns-6 c = four-not (now (c .before .before .before .before .before .before .before .before .before .before .before .before .before .args .s)) (c .before .before .before .before .before .before .before .before .before .before .before .before .before .args .at) (c .before .before .before .before .before .before .before .before .before .before .before .before .before .pre .1) (λ h l p q r t. c .if6 .taken t)
@@ -61,20 +31,20 @@ pub four-spec : {M : Type 1} → statement M
 four-spec =
     tie.close
     (tie.spec
-    sub-if1
+    (λ c. omega arith)
     returns
-    shared-slice-read-a
-    add-b
-    shared-slice-read-b
+    (λ c. omega arith)
+    (λ c. omega arith)
+    (λ c. omega arith)
     returns-2
-    low4-requires
+    (λ c κs. tt)
     returns-3
-    high4-requires
+    (λ c κs. tt)
     returns-4
-    add-if5
-    shared-slice-read-if5
+    (λ c. omega arith)
+    (λ c. omega arith)
     returns-5
-    add-if6
-    shared-slice-read-if6
+    (λ c. omega arith)
+    (λ c. omega arith)
     returns-6
     returns-7)

@@ -9,12 +9,9 @@ use Rattle.utf8.specs.Utf8.{isUtf8}
 use Rattle.utf8.proofs.is_utf8.Statement.{statement}
 use Rattle.utf8.proofs.is_utf8.Tie as tie
 
-valid-front-requires : tie.Need-valid-front-requires
-valid-front-requires c κs = omega arith
-
 returns : tie.Need-returns
 unfolding isUtf8
 returns c = ap (λ (n : ℕ). eqb n (length (now (c .before .before .args .s)))) (c .valid-front .ensures)
 
 pub is-utf8-spec : {M : Type 1} → statement M
-is-utf8-spec = tie.close (tie.spec valid-front-requires returns)
+is-utf8-spec = tie.close (tie.spec (λ c κs. omega arith) returns)

@@ -6,38 +6,14 @@ use Rattle.utf8.proofs.Shapes.{three, shape-at, three-not}
 use Rattle.utf8.proofs.three.Statement.{statement}
 use Rattle.utf8.proofs.three.Tie as tie
 
-sub-if1 : tie.Need-sub-if1
-sub-if1 c = omega arith
-
 returns : tie.Need-returns
 returns c = three-not (now (c .before .before .args .s)) (c .before .before .args .at) (c .before .before .pre .1) (λ h p q r. omega arith)
-
-shared-slice-read-a : tie.Need-shared-slice-read-a
-shared-slice-read-a c = omega arith
-
-add-b : tie.Need-add-b
-add-b c = omega arith
-
-shared-slice-read-b : tie.Need-shared-slice-read-b
-shared-slice-read-b c = omega arith
-
-low3-requires : tie.Need-low3-requires
-low3-requires c κs = tt
 
 returns-2 : tie.Need-returns-2
 returns-2 c = three-not (now (c .before .before .before .before .before .before .args .s)) (c .before .before .before .before .before .before .args .at) (c .before .before .before .before .before .before .pre .1) (λ h p q r. omega arith)
 
-high3-requires : tie.Need-high3-requires
-high3-requires c κs = tt
-
 returns-3 : tie.Need-returns-3
 returns-3 c = three-not (now (c .before .before .before .before .before .before .before .before .args .s)) (c .before .before .before .before .before .before .before .before .args .at) (c .before .before .before .before .before .before .before .before .pre .1) (λ h p q r. omega arith)
-
-add-if4 : tie.Need-add-if4
-add-if4 c = omega arith
-
-shared-slice-read-if4 : tie.Need-shared-slice-read-if4
-shared-slice-read-if4 c = omega arith
 
 returns-4 : tie.Need-returns-4
 returns-4 c = three-not (now (c .before .before .before .before .before .before .before .before .before .before .args .s)) (c .before .before .before .before .before .before .before .before .before .before .args .at) (c .before .before .before .before .before .before .before .before .before .before .pre .1) (λ h p q r. c .if4 .taken r)
@@ -49,16 +25,16 @@ pub three-spec : {M : Type 1} → statement M
 three-spec =
     tie.close
     (tie.spec
-    sub-if1
+    (λ c. omega arith)
     returns
-    shared-slice-read-a
-    add-b
-    shared-slice-read-b
-    low3-requires
+    (λ c. omega arith)
+    (λ c. omega arith)
+    (λ c. omega arith)
+    (λ c κs. tt)
     returns-2
-    high3-requires
+    (λ c κs. tt)
     returns-3
-    add-if4
-    shared-slice-read-if4
+    (λ c. omega arith)
+    (λ c. omega arith)
     returns-4
     returns-5)

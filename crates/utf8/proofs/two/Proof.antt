@@ -6,23 +6,11 @@ use Rattle.utf8.proofs.Shapes.{two, shape-at, two-not}
 use Rattle.utf8.proofs.two.Statement.{statement}
 use Rattle.utf8.proofs.two.Tie as tie
 
-sub-if1 : tie.Need-sub-if1
-sub-if1 c = omega arith
-
 returns : tie.Need-returns
 returns c = two-not (now (c .before .args .s)) (c .before .args .at) (c .before .pre .1) (λ h p q. omega arith)
 
-shared-slice-read-if2 : tie.Need-shared-slice-read-if2
-shared-slice-read-if2 c = omega arith
-
 returns-2 : tie.Need-returns-2
 returns-2 c = two-not (now (c .before .before .before .args .s)) (c .before .before .before .args .at) (c .before .before .before .pre .1) (λ h p q. omega arith)
-
-add-if3 : tie.Need-add-if3
-add-if3 c = omega arith
-
-shared-slice-read-if3 : tie.Need-shared-slice-read-if3
-shared-slice-read-if3 c = omega arith
 
 returns-3 : tie.Need-returns-3
 returns-3 c = two-not (now (c .before .before .before .before .before .args .s)) (c .before .before .before .before .before .args .at) (c .before .before .before .before .before .pre .1) (λ h p q. c .if3 .taken q)
@@ -34,11 +22,11 @@ pub two-spec : {M : Type 1} → statement M
 two-spec =
     tie.close
     (tie.spec
-    sub-if1
+    (λ c. omega arith)
     returns
-    shared-slice-read-if2
+    (λ c. omega arith)
     returns-2
-    add-if3
-    shared-slice-read-if3
+    (λ c. omega arith)
+    (λ c. omega arith)
     returns-3
     returns-4)

@@ -18,20 +18,8 @@ abbrev μ-loop : tie.MeasureT-loop
 loop-holds : tie.Need-loop-holds Inv-loop μ-loop
 loop-holds c = passes-none (now (c .before .args .s)) 0 zero-le
 
-shared-slice-read-if1 : tie.Need-shared-slice-read-if1 Inv-loop μ-loop
-shared-slice-read-if1 c = omega arith
-
-after-ascii-requires : tie.Need-after-ascii-requires Inv-loop μ-loop
-after-ascii-requires c κs = omega arith
-
-loop-less : tie.Need-loop-less Inv-loop μ-loop
-loop-less c = omega arith
-
 loop-again : tie.Need-loop-again Inv-loop μ-loop
 loop-again c = passes-on (c .before .before .before .before .loop .inv) (c .after-ascii .ensures .0)
-
-char-length-requires : tie.Need-char-length-requires Inv-loop μ-loop
-char-length-requires c κs = omega arith
 
 returns : tie.Need-returns Inv-loop μ-loop
 returns c = ends-at (now (c .before .before .before .before .before .before .before .args .s)) (c .before .before .before .before .before .loop .at) (c .before .before .before .before .before .loop .inv) (sym (c .before .char-length .ensures) ∙ c .if2 .taken)
@@ -58,11 +46,11 @@ valid-front-spec =
     Inv-loop
     μ-loop
     loop-holds
-    shared-slice-read-if1
-    after-ascii-requires
-    loop-less
+    (λ c. omega arith)
+    (λ c κs. omega arith)
+    (λ c. omega arith)
     loop-again
-    char-length-requires
+    (λ c κs. omega arith)
     returns
     add-after-run
     after-run-requires

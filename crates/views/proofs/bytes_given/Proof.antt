@@ -6,9 +6,6 @@ use Rattle.views.proofs.ViewLaws.{given-inside}
 use Rattle.views.proofs.bytes_given.Statement.{statement}
 use Rattle.views.proofs.bytes_given.Tie as tie
 
-part-given-requires : tie.Need-part-given-requires
-part-given-requires c κs = search needs
-
 cut-requires : tie.Need-cut-requires
 cut-requires c κs =
     let a = c .before .before .before .before .args in
@@ -22,4 +19,4 @@ returns c =
     (c .cut .ensures .0 ∙ ap (bytesOf (a .snapshot .now) (a .log .now)) p, c .cut .ensures .1 ∙ ap (startOf (a .snapshot .ptr) (a .log .ptr)) p)
 
 pub bytes-given-spec : {M : Type 1} → statement M
-bytes-given-spec = tie.close (tie.spec part-given-requires cut-requires returns)
+bytes-given-spec = tie.close (tie.spec (λ c κs. search needs) cut-requires returns)

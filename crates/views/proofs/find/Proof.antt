@@ -38,23 +38,8 @@ turn c =
 loop-holds : tie.Need-loop-holds Inv-loop μ-loop
 loop-holds c = (omega arith, ap (findFrom (c .before .args .id .0) 0) (rows-all (c .before .args .rows .now) (c .before .args .count)))
 
-cast-t7 : tie.Need-cast-t7 Inv-loop μ-loop
-cast-t7 c = omega (arith, c .before .before .before .pre)
-
-row-at-requires : tie.Need-row-at-requires Inv-loop μ-loop
-row-at-requires c κs = omega (arith, c .before .before .before .pre)
-
-live-as-requires : tie.Need-live-as-requires Inv-loop μ-loop
-live-as-requires c κs = search needs
-
 returns : tie.Need-returns Inv-loop μ-loop
 returns c = ap found (rw (c .if1 .taken) at (turn (c .before)))
-
-add-i : tie.Need-add-i Inv-loop μ-loop
-add-i c = search needs
-
-loop-less : tie.Need-loop-less Inv-loop μ-loop
-loop-less c = search needs
 
 loop-again : tie.Need-loop-again Inv-loop μ-loop
 loop-again c = (omega arith, rw (c .if1 .left) at (turn (c .before)))
@@ -72,11 +57,11 @@ find-spec =
     Inv-loop
     μ-loop
     loop-holds
-    cast-t7
-    row-at-requires
-    live-as-requires
+    (λ c. omega (arith, c .before .before .before .pre))
+    (λ c κs. omega (arith, c .before .before .before .pre))
+    (λ c κs. search needs)
     returns
-    add-i
-    loop-less
+    (λ c. search needs)
+    (λ c. search needs)
     loop-again
     returns-2)

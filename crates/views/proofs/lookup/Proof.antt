@@ -8,18 +8,12 @@ use Rattle.meaning.specs.Views.{lookup}
 use Rattle.views.proofs.lookup.Statement.{statement}
 use Rattle.views.proofs.lookup.Tie as tie
 
-rows-lent-plain-requires : tie.Need-rows-lent-plain-requires
-rows-lent-plain-requires c κs = search needs
-
 returns : tie.Need-returns
 unfolding lookup
 returns c =
     let a = c .before .before .before .args in
     let h : rowsLentPlain (a .rows .now) < a .count = omega arith in
     simp (lt-ltb (rowsLentPlain (a .rows .now)) (a .count) h)
-
-find-requires : tie.Need-find-requires
-find-requires c κs = search needs
 
 returns-2 : tie.Need-returns-2
 unfolding lookup
@@ -29,4 +23,4 @@ returns-2 c =
     simp (le-ltb (rowsLentPlain (a .rows .now)) (a .count) h) (c .find .ensures)
 
 pub lookup-spec : {M : Type 1} → statement M
-lookup-spec = tie.close (tie.spec rows-lent-plain-requires returns find-requires returns-2)
+lookup-spec = tie.close (tie.spec (λ c κs. search needs) returns (λ c κs. search needs) returns-2)

@@ -14,18 +14,6 @@ asked s = view (s .args .shown) (s .args .d) (s .args .rows .now) (s .args .coun
 viewed : (c : tie.After-view) → asked (c .before .before .before .before) ≡ viewedBack (c .view .result)
 viewed c = viewed-back _ _ (c .view .ensures)
 
-view-requires : tie.Need-view-requires
-view-requires c κs = search needs
-
-enum-told : tie.Need-enum-told
-enum-told c = search needs
-
-enum-known-why : tie.Need-enum-known-why
-enum-known-why c = search needs
-
-number-requires : tie.Need-number-requires
-number-requires c κs = search needs
-
 returns : tie.Need-returns
 returns c = sym (ap numberTold (viewed (c .before .before) ∙ ap viewedBack (c .enum-told .given .1)))
 
@@ -34,4 +22,4 @@ returns-2 c = c .number .ensures ∙ sym (ap numberTold (viewed (c .before .befo
 
 pub number-told-spec : {M : Type 1} → statement M
 number-told-spec =
-    tie.close (tie.spec view-requires enum-told enum-known-why number-requires returns returns-2)
+    tie.close (tie.spec (λ c κs. search needs) (λ c. search needs) (λ c. search needs) (λ c κs. search needs) returns returns-2)

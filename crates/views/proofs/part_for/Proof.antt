@@ -5,12 +5,6 @@ use Rattle.meaning.specs.Views.{partFor}
 use Rattle.views.proofs.part_for.Statement.{statement}
 use Rattle.views.proofs.part_for.Tie as tie
 
-shown-part-requires : tie.Need-shown-part-requires
-shown-part-requires c κs = search needs
-
-outside-requires : tie.Need-outside-requires
-outside-requires c κs = search needs
-
 returns : tie.Need-returns
 unfolding partFor
 returns c = simp (sym (c .before .before .shown-part .ensures), sym (c .before .outside .ensures), c .if1 .taken)
@@ -20,4 +14,4 @@ unfolding partFor
 returns-2 c = simp (sym (c .before .before .shown-part .ensures), sym (c .before .outside .ensures), c .if1 .left)
 
 pub part-for-spec : {M : Type 1} → statement M
-part-for-spec = tie.close (tie.spec shown-part-requires outside-requires returns returns-2)
+part-for-spec = tie.close (tie.spec (λ c κs. search needs) (λ c κs. search needs) returns returns-2)

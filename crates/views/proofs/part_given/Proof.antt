@@ -14,15 +14,6 @@ asked s = view (s .args .shown) (s .args .d) (s .args .rows .now) (s .args .coun
 viewed : (c : tie.After-view) → asked (c .before .before .before .before) ≡ viewedBack (c .view .result)
 viewed c = viewed-back _ _ (c .view .ensures)
 
-view-requires : tie.Need-view-requires
-view-requires c κs = search needs
-
-enum-known-part : tie.Need-enum-known-part
-enum-known-part c = search needs
-
-enum-told : tie.Need-enum-told
-enum-told c = search needs
-
 returns : tie.Need-returns
 returns c = sym (ap given (viewed (c .before .before .before) ∙ ap viewedBack (c .before .part .given .1)))
 
@@ -30,4 +21,4 @@ returns-2 : tie.Need-returns-2
 returns-2 c = sym (ap given (viewed (c .before .before) ∙ ap viewedBack (c .enum-told .given .1)))
 
 pub part-given-spec : {M : Type 1} → statement M
-part-given-spec = tie.close (tie.spec view-requires enum-known-part enum-told returns returns-2)
+part-given-spec = tie.close (tie.spec (λ c κs. search needs) (λ c. search needs) (λ c. search needs) returns returns-2)

@@ -8,9 +8,6 @@ use Rattle.meaning.specs.Views.{rowFor}
 use Rattle.views.proofs.row_for.Statement.{statement}
 use Rattle.views.proofs.row_for.Tie as tie
 
-cast-n : tie.Need-cast-n
-cast-n c = search needs
-
 returns : tie.Need-returns
 unfolding rowFor
 returns c = simp (lt-ltb _ _ (c .if1 .taken))
@@ -23,18 +20,12 @@ returns-3 : tie.Need-returns-3
 unfolding rowFor
 returns-3 c = simp (le-ltb _ _ (c .before .before .if1 .left), le-ltb _ _ (c .before .if2 .left), le-leb _ _ (c .if3 .taken))
 
-rows-lent-plain-requires : tie.Need-rows-lent-plain-requires
-rows-lent-plain-requires c κs = search needs
-
 returns-4 : tie.Need-returns-4
 unfolding rowFor
 returns-4 c =
     let a = c .before .before .before .before .before .before .before .args in
     let h : rowsLentPlain (a .rows .now) < a .count = omega arith in
     simp (le-ltb _ _ (c .before .before .before .before .if1 .left), le-ltb _ _ (c .before .before .before .if2 .left), lt-leb _ _ (c .before .before .if3 .left), lt-ltb (rowsLentPlain (a .rows .now)) (a .count) h)
-
-row-at-requires : tie.Need-row-at-requires
-row-at-requires c κs = search needs
 
 returns-5 : tie.Need-returns-5
 unfolding rowFor
@@ -47,11 +38,11 @@ pub row-for-spec : {M : Type 1} → statement M
 row-for-spec =
     tie.close
     (tie.spec
-    cast-n
+    (λ c. search needs)
     returns
     returns-2
     returns-3
-    rows-lent-plain-requires
+    (λ c κs. search needs)
     returns-4
-    row-at-requires
+    (λ c κs. search needs)
     returns-5)

@@ -14,17 +14,8 @@ asked s = rowFor (s .args .d) (s .args .rows .now) (s .args .count) (s .args .no
 named : (c : tie.After-row-for) → asked (c .before .before .before .before) ≡ namedBack (c .row-for .result)
 named c = named-back _ _ (c .row-for .ensures)
 
-row-for-requires : tie.Need-row-for-requires
-row-for-requires c κs = search needs
-
-enum-known-row : tie.Need-enum-known-row
-enum-known-row c = search needs
-
 part-for-requires : tie.Need-part-for-requires
 part-for-requires c κs = let s = row-small _ _ _ _ _ (named (c .before .before .before) ∙ ap namedBack (c .before .row .given .1)) in (s .d-small, s .row-fits)
-
-enum-known-why : tie.Need-enum-known-why
-enum-known-why c = search needs
 
 returns : tie.Need-returns
 unfolding view
@@ -37,4 +28,4 @@ returns-2 c = simp (named (c .before .before .before) ∙ ap namedBack (c .befor
 pub view-spec : {M : Type 1} → statement M
 view-spec =
     tie.close
-    (tie.spec row-for-requires enum-known-row part-for-requires enum-known-why returns returns-2)
+    (tie.spec (λ c κs. search needs) (λ c. search needs) part-for-requires (λ c. search needs) returns returns-2)

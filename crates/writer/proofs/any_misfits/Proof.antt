@@ -45,23 +45,11 @@ turn c =
 loop-holds : tie.Need-loop-holds Inv-loop μ-loop
 loop-holds c = (omega arith, ap (any (c .before .before .before)) (rows-all (c .before .before .before .args .rows .now) (c .before .before .before .args .count)))
 
-cast-t10 : tie.Need-cast-t10 Inv-loop μ-loop
-cast-t10 c = omega (arith, c .before .before .before .before .before .pre .1)
-
-row-at-requires : tie.Need-row-at-requires Inv-loop μ-loop
-row-at-requires c κs = omega (arith, c .before .before .before .before .before .pre .1)
-
 misfits-requires : tie.Need-misfits-requires Inv-loop μ-loop
 misfits-requires c κs = (c .before .before .before .before .before .before .pre .0, subst RowFits (sym (c .row-at .ensures)) (fits-at (c .before .before .before .before .before .before .args .rows .now) (c .before .before .loop .i)))
 
 returns : tie.Need-returns Inv-loop μ-loop
 returns c = rw (c .if1 .taken) at (turn (c .before))
-
-add-i : tie.Need-add-i Inv-loop μ-loop
-add-i c = search needs
-
-loop-less : tie.Need-loop-less Inv-loop μ-loop
-loop-less c = search needs
 
 loop-again : tie.Need-loop-again Inv-loop μ-loop
 loop-again c = (omega arith, rw (c .if1 .left) at (turn (c .before)))
@@ -78,11 +66,11 @@ any-misfits-spec =
     Inv-loop
     μ-loop
     loop-holds
-    cast-t10
-    row-at-requires
+    (λ c. omega (arith, c .before .before .before .before .before .pre .1))
+    (λ c κs. omega (arith, c .before .before .before .before .before .pre .1))
     misfits-requires
     returns
-    add-i
-    loop-less
+    (λ c. search needs)
+    (λ c. search needs)
     loop-again
     returns-2)

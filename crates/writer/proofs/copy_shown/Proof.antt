@@ -22,18 +22,6 @@ shown s = bytesOf (s .args .snapshot .now) (s .args .log .now) (part s)
 copied : (c : tie.After-cut) → c .cut .result .now ≡ shown (c .before .before .before .before .before .before)
 copied c = c .cut .ensures .0 ∙ ap (bytesOf (c .before .before .before .before .before .before .args .snapshot .now) (c .before .before .before .before .before .before .args .log .now)) (c .before .before .shown-part .ensures)
 
-shown-part-requires : tie.Need-shown-part-requires
-shown-part-requires c κs = search needs
-
-sub-copy : tie.Need-sub-copy
-sub-copy c = search needs
-
-part-copy-start : tie.Need-part-copy-start
-part-copy-start c = search needs
-
-part-copy-end : tie.Need-part-copy-end
-part-copy-end c = search needs
-
 cut-requires : tie.Need-cut-requires
 cut-requires c κs = subst (Inside (c .before .before .before .before .before .args .snapshot .now) (c .before .before .before .before .before .args .log .now)) (sym (c .before .shown-part .ensures)) (c .before .before .before .before .before .pre .1 .1 .0)
 
@@ -42,9 +30,6 @@ copy-requires c κs =
     let s = c .before .before .before .before .before .before in
     let long = ap length (copied c) ∙ length-part (sourceOf (s .args .snapshot .now) (s .args .log .now) (part s .«from_log»)) (part s .at) (part s .count) (s .pre .1 .1 .0) in
     omega (arith, long, s .pre .1 .1 .1)
-
-same-length : tie.Need-same-length
-same-length c = search needs
 
 returns : tie.Need-returns
 returns c =
@@ -55,11 +40,11 @@ pub copy-shown-spec : {M : Type 1} → statement M
 copy-shown-spec =
     tie.close
     (tie.spec
-    shown-part-requires
-    sub-copy
-    part-copy-start
-    part-copy-end
+    (λ c κs. search needs)
+    (λ c. search needs)
+    (λ c. search needs)
+    (λ c. search needs)
     cut-requires
     copy-requires
-    same-length
+    (λ c. search needs)
     returns)

@@ -6,22 +6,10 @@ use borrow.Author.Needs.{needs}
 use Rattle.writer.proofs.counted.Statement.{statement}
 use Rattle.writer.proofs.counted.Tie as tie
 
-is-written-requires : tie.Need-is-written-requires
-is-written-requires c κs = search needs
-
 returns : tie.Need-returns
 returns c =
     let k = sym (c .before .is-written .ensures) ∙ not-true (c .before .is-written .result) (c .if1 .taken) in
     (simp (k, add-zero), simp (k, add-zero))
-
-add-t7 : tie.Need-add-t7
-add-t7 c = search needs
-
-record-length-requires : tie.Need-record-length-requires
-record-length-requires c κs = search needs
-
-add-t9 : tie.Need-add-t9
-add-t9 c = search needs
 
 returns-2 : tie.Need-returns-2
 returns-2 c =
@@ -30,4 +18,4 @@ returns-2 c =
 
 pub counted-spec : {M : Type 1} → statement M
 counted-spec =
-    tie.close (tie.spec is-written-requires returns add-t7 record-length-requires add-t9 returns-2)
+    tie.close (tie.spec (λ c κs. search needs) returns (λ c. search needs) (λ c κs. search needs) (λ c. search needs) returns-2)

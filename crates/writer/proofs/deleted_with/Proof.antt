@@ -6,8 +6,5 @@ use Rattle.writer.proofs.deleted_with.Tie as tie
 returns : tie.Need-returns
 returns c = simp (c .if1 .taken)
 
-returns-2 : tie.Need-returns-2
-returns-2 c = search needs
-
 pub deleted-with-spec : {M : Type 1} → statement M
-deleted-with-spec = tie.close (tie.spec returns returns-2)
+deleted-with-spec = tie.close (tie.spec returns (λ c. search needs))

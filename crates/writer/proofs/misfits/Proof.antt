@@ -14,23 +14,11 @@ passes s = outside (s .args .snapshot .now) (s .args .log .now)
 tested : (c : tie.After-outside) → passes (c .before .before .before .before) (shownPart Caption (c .before .before .before .before .args .config .dimensions) (c .before .before .before .before .args .row)) ≡ c .outside .result
 tested c = sym (c .outside .ensures ∙ ap (passes (c .before .before .before .before)) (c .before .shown-part .ensures))
 
-shown-part-requires : tie.Need-shown-part-requires
-shown-part-requires c κs = search needs
-
-outside-requires : tie.Need-outside-requires
-outside-requires c κs = search needs
-
 returns : tie.Need-returns
 returns c = simp (tested (c .before) ∙ c .if1 .taken)
 
-deleted-with-requires : tie.Need-deleted-with-requires
-deleted-with-requires c κs = search needs
-
 returns-2 : tie.Need-returns-2
 returns-2 c = simp (tested (c .before .before .before) ∙ c .before .before .if1 .left, sym (c .before .deleted-with .ensures) ∙ c .if2 .taken)
-
-caption-limit-requires : tie.Need-caption-limit-requires
-caption-limit-requires c κs = search needs
 
 returns-3 : tie.Need-returns-3
 returns-3 c = simp (tested (c .before .before .before .before) ∙ c .before .before .before .if1 .left, sym (c .before .before .deleted-with .ensures) ∙ c .before .if2 .left, c .caption-limit .ensures)
@@ -39,10 +27,10 @@ pub misfits-spec : {M : Type 1} → statement M
 misfits-spec =
     tie.close
     (tie.spec
-    shown-part-requires
-    outside-requires
+    (λ c κs. search needs)
+    (λ c κs. search needs)
     returns
-    deleted-with-requires
+    (λ c κs. search needs)
     returns-2
-    caption-limit-requires
+    (λ c κs. search needs)
     returns-3)

@@ -9,20 +9,8 @@ use borrow.Author.Needs.{needs}
 use Rattle.writer.proofs.write_crc.Statement.{statement}
 use Rattle.writer.proofs.write_crc.Tie as tie
 
-slice-reshare-prefix-crc32 : tie.Need-slice-reshare-prefix-crc32
-slice-reshare-prefix-crc32 c = search needs
-
 slice-aggregate-crc32 : tie.Need-slice-aggregate-crc32
 slice-aggregate-crc32 c = sym (length-take-le (c .before .before .args .n) (c .before .before .args .out .now) (omega arith))
-
-crc32-requires : tie.Need-crc32-requires
-crc32-requires c κs = search needs
-
-put-u32-requires : tie.Need-put-u32-requires
-put-u32-requires c κs = search needs
-
-same-length : tie.Need-same-length
-same-length c = search needs
 
 returns : tie.Need-returns
 returns c =
@@ -33,9 +21,9 @@ pub write-crc-spec : {M : Type 1} → statement M
 write-crc-spec =
     tie.close
     (tie.spec
-    slice-reshare-prefix-crc32
+    (λ c. search needs)
     slice-aggregate-crc32
-    crc32-requires
-    put-u32-requires
-    same-length
+    (λ c κs. search needs)
+    (λ c κs. search needs)
+    (λ c. search needs)
     returns)

@@ -25,22 +25,10 @@ records-long : (c : tie.Start) → length (rowsBytes (c .args .extent) (c .args 
 records-long c =
     length-rows-bytes (c .args .extent) (c .args .config) (c .args .snapshot .now) (c .args .log .now) (rowsIn (c .args .count) (c .args .rows .now)) (c .pre .0 .fit) ∙ sym (c .pre .1 .0 .bytes-are)
 
-write-header-requires : tie.Need-write-header-requires
-write-header-requires c κs = search needs
-
 write-records-requires : tie.Need-write-records-requires
 write-records-requires c κs =
     let s = c .before .before .before .before .before .before .before .before .before in
     (s .pre .0, omega (arith, records-long s, s .pre .1 .1, c .before .before .before .write-header .kept .1 .1 .1 .0))
-
-add-write-crc : tie.Need-add-write-crc
-add-write-crc c = search needs
-
-write-crc-requires : tie.Need-write-crc-requires
-write-crc-requires c κs = search needs
-
-same-length : tie.Need-same-length
-same-length c = search needs
 
 returns : tie.Need-returns
 returns c =
@@ -65,9 +53,9 @@ pub write-file-spec : {M : Type 1} → statement M
 write-file-spec =
     tie.close
     (tie.spec
-    write-header-requires
+    (λ c κs. search needs)
     write-records-requires
-    add-write-crc
-    write-crc-requires
-    same-length
+    (λ c. search needs)
+    (λ c κs. search needs)
+    (λ c. search needs)
     returns)

@@ -46,9 +46,6 @@ returns-2 c =
 write-file-requires : tie.Need-write-file-requires
 write-file-requires c κs = (c .before .before .before .before .before .before .before .before .before .pre, (c .before .before .before .before .written-totals .ensures .0, omega (arith, c .before .if2 .left)))
 
-same-length : tie.Need-same-length
-same-length c = search needs
-
 returns-3 : tie.Need-returns-3
 unfolding fileOfRows
 returns-3 c =
@@ -73,5 +70,5 @@ write-fitted-spec =
     returns
     returns-2
     write-file-requires
-    same-length
+    (λ c. search needs)
     returns-3)

@@ -53,12 +53,6 @@ loop-holds c =
       ap (λ (y : List ℕ). placed (headerLength Two) y (a .out .now)) b,
     )
 
-cast-t12 : tie.Need-cast-t12 Inv-loop μ-loop
-cast-t12 c = omega (arith, c .before .before .before .before .before .before .pre .0 .lent)
-
-row-at-requires : tie.Need-row-at-requires Inv-loop μ-loop
-row-at-requires c κs = omega (arith, c .before .before .before .before .before .before .pre .0 .lent)
-
 write-row-requires : tie.Need-write-row-requires Inv-loop μ-loop
 write-row-requires c κs =
     let a = c .before .before .before .before .before .before .before .before .args in
@@ -68,12 +62,6 @@ write-row-requires c κs =
       subst (Copyable (a .config .dimensions) (a .snapshot .now) (a .log .now)) r (f .copied),
       subst (λ (q : Row). l .at + length (rowBytes (a .extent) (a .config .dimensions) (a .snapshot .now) (a .log .now) q) ≤ length (l .out)) r (omega (arith, f .long, l .inv .3, l .inv .1)),
     )
-
-add-i : tie.Need-add-i Inv-loop μ-loop
-add-i c = search needs
-
-loop-less : tie.Need-loop-less Inv-loop μ-loop
-loop-less c = search needs
 
 loop-again : tie.Need-loop-again Inv-loop μ-loop
 loop-again c =
@@ -93,9 +81,6 @@ loop-again c =
           ∙ sym (ap (λ (y : List ℕ). placed (l .at) y (l .out)) (f .bytes-are)) ∙ l .inv .4,
     )
 
-same-length : tie.Need-same-length Inv-loop μ-loop
-same-length c = c .before .loop .inv .1
-
 returns : tie.Need-returns Inv-loop μ-loop
 returns c =
     let a = c .before .before .before .before .before .before .args in
@@ -110,11 +95,11 @@ write-records-spec =
     Inv-loop
     μ-loop
     loop-holds
-    cast-t12
-    row-at-requires
+    (λ c. omega (arith, c .before .before .before .before .before .before .pre .0 .lent))
+    (λ c κs. omega (arith, c .before .before .before .before .before .before .pre .0 .lent))
     write-row-requires
-    add-i
-    loop-less
+    (λ c. search needs)
+    (λ c. search needs)
     loop-again
-    same-length
+    (λ c. c .before .loop .inv .1)
     returns)

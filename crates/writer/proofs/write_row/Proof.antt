@@ -15,9 +15,6 @@ use Rattle.writer.proofs.write_row.Tie as tie
 is-kept : (c : tie.Else1) → keeps (c .before .before .before .before .before .args .extent) (c .before .before .before .before .before .args .row .deleted) ≡ true
 is-kept c = sym (c .before .is-written .ensures) ∙ not-false (c .before .is-written .result) (c .if1 .left)
 
-is-written-requires : tie.Need-is-written-requires
-is-written-requires c κs = search needs
-
 returns : tie.Need-returns
 returns c =
     let k = sym (c .before .is-written .ensures) ∙ not-true (c .before .is-written .result) (c .if1 .taken) in
@@ -30,9 +27,6 @@ write-record-requires c κs =
     let room = rw (is-kept (c .before)) at (s .pre .1) in
     (s .pre .0, omega (arith, room, length-record (a .d) (a .snapshot .now) (a .log .now) (a .row) (s .pre .0 .inside)))
 
-same-length : tie.Need-same-length
-same-length c = search needs
-
 returns-2 : tie.Need-returns-2
 returns-2 c =
     let s = c .before .before .before .before .before .before .before .before .before in
@@ -44,4 +38,4 @@ returns-2 c =
 
 pub write-row-spec : {M : Type 1} → statement M
 write-row-spec =
-    tie.close (tie.spec is-written-requires returns write-record-requires same-length returns-2)
+    tie.close (tie.spec (λ c κs. search needs) returns write-record-requires (λ c. search needs) returns-2)

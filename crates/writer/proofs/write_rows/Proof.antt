@@ -11,20 +11,8 @@ use Rattle.writer.proofs.write_rows.Tie as tie
 tested : (c : tie.After-validate) → validate (c .before .before .before .before .before .args .config) ≡ fromChecked (c .validate .result)
 tested c = checked-is _ (c .validate .ensures) refl
 
-validate-requires : tie.Need-validate-requires
-validate-requires c κs = search needs
-
-enum-told : tie.Need-enum-told
-enum-told c = search needs
-
 write-valid-requires : tie.Need-write-valid-requires
 write-valid-requires c κs = bounded-of-valid (c .before .before .before .before .before .before .before .before .args .config) (tested (c .before .before .before) ∙ ap fromChecked (c .before .enum-told .given .1))
-
-enum-known-why : tie.Need-enum-known-why
-enum-known-why c = search needs
-
-same-length : tie.Need-same-length
-same-length c = search needs
 
 returns : tie.Need-returns
 unfolding write
@@ -42,10 +30,10 @@ pub write-rows-spec : {M : Type 1} → statement M
 write-rows-spec =
     tie.close
     (tie.spec
-    validate-requires
-    enum-told
+    (λ c κs. search needs)
+    (λ c. search needs)
     write-valid-requires
-    enum-known-why
-    same-length
+    (λ c. search needs)
+    (λ c. search needs)
     returns
     returns-2)

@@ -13,39 +13,6 @@ use borrow.Author.Needs.{needs}
 use Rattle.writer.proofs.write_settings.Statement.{statement}
 use Rattle.writer.proofs.write_settings.Tie as tie
 
-put-u64-requires : tie.Need-put-u64-requires
-put-u64-requires c κs = search needs
-
-put-u32-requires : tie.Need-put-u32-requires
-put-u32-requires c κs = search needs
-
-cast-put-u32 : tie.Need-cast-put-u32
-cast-put-u32 c = search needs
-
-put-u32-requires-2 : tie.Need-put-u32-requires-2
-put-u32-requires-2 c κs = search needs
-
-cast-put-u32-2 : tie.Need-cast-put-u32-2
-cast-put-u32-2 c = search needs
-
-put-u32-requires-3 : tie.Need-put-u32-requires-3
-put-u32-requires-3 c κs = search needs
-
-cast-put-u32-3 : tie.Need-cast-put-u32-3
-cast-put-u32-3 c = search needs
-
-put-u32-requires-4 : tie.Need-put-u32-requires-4
-put-u32-requires-4 c κs = search needs
-
-number-requires : tie.Need-number-requires
-number-requires c κs = search needs
-
-put-u32-requires-5 : tie.Need-put-u32-requires-5
-put-u32-requires-5 c κs = search needs
-
-same-length : tie.Need-same-length
-same-length c = search needs
-
 returns : tie.Need-returns
 returns c =
     let p6 = c .before .before in
@@ -69,15 +36,15 @@ pub write-settings-spec : {M : Type 1} → statement M
 write-settings-spec =
     tie.close
     (tie.spec
-    put-u64-requires
-    put-u32-requires
-    cast-put-u32
-    put-u32-requires-2
-    cast-put-u32-2
-    put-u32-requires-3
-    cast-put-u32-3
-    put-u32-requires-4
-    number-requires
-    put-u32-requires-5
-    same-length
+    (λ c κs. search needs)
+    (λ c κs. search needs)
+    (λ c. search needs)
+    (λ c κs. search needs)
+    (λ c. search needs)
+    (λ c κs. search needs)
+    (λ c. search needs)
+    (λ c κs. search needs)
+    (λ c κs. search needs)
+    (λ c κs. search needs)
+    (λ c. search needs)
     returns)

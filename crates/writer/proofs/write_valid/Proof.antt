@@ -12,18 +12,12 @@ use Rattle.writer.proofs.write_valid.Tie as tie
 lent : (c : tie.Else1) → c .before .before .before .before .before .before .args .count ≤ rowsLentPlain (c .before .before .before .before .before .before .args .rows .now)
 lent c = omega (arith, c .before .rows-lent-plain .ensures, c .if1 .left)
 
-rows-lent-plain-requires : tie.Need-rows-lent-plain-requires
-rows-lent-plain-requires c κs = search needs
-
 returns : tie.Need-returns
 unfolding writeValid stateRows
 returns c =
     let a = c .before .before .before .before .before .before .args in
     let few : rowsLentPlain (a .rows .now) < a .count = omega (arith, c .before .rows-lent-plain .ensures, c .if1 .taken) in
     (simp (lt-ltb (rowsLentPlain (a .rows .now)) (a .count) few), simp (lt-ltb (rowsLentPlain (a .rows .now)) (a .count) few))
-
-any-misfits-requires : tie.Need-any-misfits-requires
-any-misfits-requires c κs = (c .before .before .before .before .before .before .pre .d-high, lent c)
 
 returns-2 : tie.Need-returns-2
 unfolding writeValid stateRows
@@ -35,9 +29,6 @@ returns-2 c =
 
 write-fitted-requires : tie.Need-write-fitted-requires
 write-fitted-requires c κs = record { bounded = c .before .before .before .before .before .before .before .before .before .pre; lent = lent (c .before .before .before); fit = sym (c .before .before .any-misfits .ensures) ∙ c .before .if2 .left }
-
-same-length : tie.Need-same-length
-same-length c = search needs
 
 returns-3 : tie.Need-returns-3
 unfolding writeValid stateRows
@@ -51,10 +42,10 @@ pub write-valid-spec : {M : Type 1} → statement M
 write-valid-spec =
     tie.close
     (tie.spec
-    rows-lent-plain-requires
+    (λ c κs. search needs)
     returns
-    any-misfits-requires
+    (λ c κs. (c .before .before .before .before .before .before .pre .d-high, lent c))
     returns-2
     write-fitted-requires
-    same-length
+    (λ c. search needs)
     returns-3)

@@ -34,22 +34,10 @@ loop-holds c =
     let r = ap (written (a .extent)) (rows-all (a .rows .now) (a .count)) in
     (omega arith, omega arith, omega arith, zero-add _ ∙ ap length r, zero-add _ ∙ ap (size (rowKind (a .d))) r)
 
-cast-t9 : tie.Need-cast-t9 Inv-loop μ-loop
-cast-t9 c = omega (arith, c .before .before .before .pre .1)
-
-row-at-requires : tie.Need-row-at-requires Inv-loop μ-loop
-row-at-requires c κs = omega (arith, c .before .before .before .pre .1)
-
 counted-requires : tie.Need-counted-requires Inv-loop μ-loop
 counted-requires c κs =
     let s = c .before .before .before .before in
     (s .pre .0, (subst RowFits (sym (c .row-at .ensures)) (fits-at (s .args .rows .now) (c .before .before .loop .i)), (omega (arith, s .pre .1), omega (arith, s .pre .1))))
-
-add-i : tie.Need-add-i Inv-loop μ-loop
-add-i c = search needs
-
-loop-less : tie.Need-loop-less Inv-loop μ-loop
-loop-less c = search needs
 
 loop-again : tie.Need-loop-again Inv-loop μ-loop
 loop-again c =
@@ -82,10 +70,10 @@ written-totals-spec =
     Inv-loop
     μ-loop
     loop-holds
-    cast-t9
-    row-at-requires
+    (λ c. omega (arith, c .before .before .before .pre .1))
+    (λ c κs. omega (arith, c .before .before .before .pre .1))
     counted-requires
-    add-i
-    loop-less
+    (λ c. search needs)
+    (λ c. search needs)
     loop-again
     returns)

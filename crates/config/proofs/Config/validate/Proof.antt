@@ -1,29 +1,20 @@
 -- `Config::validate` answers `validate`: each return follows the tests that led there.
-use mathlib.Core.Path.{_≡_, sym, _∙_}
+use mathlib.Core.Path.{sym, _∙_}
 use borrow.Author.Needs.{needs}
 use borrow.Author.Tests.{not-true, not-false}
 use Rattle.config.specs.Settings.{validate}
 use Rattle.config.proofs.Config.validate.Statement.{statement}
 use Rattle.config.proofs.Config.validate.Tie as tie
 
-in-range-requires : tie.Need-in-range-requires
-in-range-requires c κs = search needs
-
 returns : tie.Need-returns
 unfolding validate
 returns c = simp (sym (c .before .in-range .ensures) ∙ not-true _ (c .if1 .taken))
-
-in-range-requires-2 : tie.Need-in-range-requires-2
-in-range-requires-2 c κs = search needs
 
 returns-2 : tie.Need-returns-2
 unfolding validate
 returns-2 c =
     let b = c .before .before in
     simp (sym (b .before .in-range .ensures) ∙ not-false _ (b .if1 .left), sym (c .before .in-range2 .ensures) ∙ not-true _ (c .if2 .taken))
-
-in-range-requires-3 : tie.Need-in-range-requires-3
-in-range-requires-3 c κs = search needs
 
 returns-3 : tie.Need-returns-3
 unfolding validate
@@ -43,10 +34,10 @@ pub validate-spec : {M : Type 1} → statement M
 validate-spec =
     tie.close
     (tie.spec
-    in-range-requires
+    (λ c κs. search needs)
     returns
-    in-range-requires-2
+    (λ c κs. search needs)
     returns-2
-    in-range-requires-3
+    (λ c κs. search needs)
     returns-3
     returns-4)

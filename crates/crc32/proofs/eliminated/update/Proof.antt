@@ -7,39 +7,6 @@ use borrow.Author.Needs.{needs}
 use Rattle.crc32.proofs.eliminated.update.Statement.{statement}
 use Rattle.crc32.proofs.eliminated.update.Tie as tie
 
-shared-slice-read-eliminate : tie.Need-shared-slice-read-eliminate
-shared-slice-read-eliminate c = search needs
-
-low-requires : tie.Need-low-requires
-low-requires c κs = search needs
-
-shared-slice-read-eliminate-2 : tie.Need-shared-slice-read-eliminate-2
-shared-slice-read-eliminate-2 c = search needs
-
-low-requires-2 : tie.Need-low-requires-2
-low-requires-2 c κs = search needs
-
-shared-slice-read-eliminate-3 : tie.Need-shared-slice-read-eliminate-3
-shared-slice-read-eliminate-3 c = search needs
-
-low-requires-3 : tie.Need-low-requires-3
-low-requires-3 c κs = search needs
-
-shared-slice-read-eliminate-4 : tie.Need-shared-slice-read-eliminate-4
-shared-slice-read-eliminate-4 c = search needs
-
-low-requires-4 : tie.Need-low-requires-4
-low-requires-4 c κs = search needs
-
-eliminate-requires : tie.Need-eliminate-requires
-eliminate-requires c κs = search needs
-
-slice-aggregate-sixteens : tie.Need-slice-aggregate-sixteens
-slice-aggregate-sixteens c = search needs
-
-sixteens-requires : tie.Need-sixteens-requires
-sixteens-requires c κs = search needs
-
 returns : tie.Need-returns
 returns c =
     let e = c .before .before .eliminate in
@@ -56,15 +23,15 @@ pub update-spec : {M : Type 1} → statement M
 update-spec =
     tie.close
     (tie.spec
-    shared-slice-read-eliminate
-    low-requires
-    shared-slice-read-eliminate-2
-    low-requires-2
-    shared-slice-read-eliminate-3
-    low-requires-3
-    shared-slice-read-eliminate-4
-    low-requires-4
-    eliminate-requires
-    slice-aggregate-sixteens
-    sixteens-requires
+    (λ c. search needs)
+    (λ c κs. search needs)
+    (λ c. search needs)
+    (λ c κs. search needs)
+    (λ c. search needs)
+    (λ c κs. search needs)
+    (λ c. search needs)
+    (λ c κs. search needs)
+    (λ c κs. search needs)
+    (λ c. search needs)
+    (λ c κs. search needs)
     returns)

@@ -12,15 +12,6 @@ use borrow.Author.Needs.{needs}
 use Rattle.crc32.proofs.halves.eight.Statement.{statement}
 use Rattle.crc32.proofs.halves.eight.Tie as tie
 
-add-four : tie.Need-add-four
-add-four c = search needs
-
-four-requires : tie.Need-four-requires
-four-requires c κs = search needs
-
-four-requires-2 : tie.Need-four-requires-2
-four-requires-2 c κs = search needs
-
 returns : tie.Need-returns
 returns c =
     let a = c .before .before .before .args in
@@ -31,4 +22,4 @@ returns c =
     ap₂ bitXor e₁ e₂ ∙ eight-bytes (a .c) at s (search needs)
 
 pub eight-spec : {M : Type 1} → statement M
-eight-spec = tie.close (tie.spec add-four four-requires four-requires-2 returns)
+eight-spec = tie.close (tie.spec (λ c. search needs) (λ c κs. search needs) (λ c κs. search needs) returns)

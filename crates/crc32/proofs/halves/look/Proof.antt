@@ -9,42 +9,6 @@ use borrow.Author.Needs.{needs}
 use Rattle.crc32.proofs.halves.look.Statement.{statement}
 use Rattle.crc32.proofs.halves.look.Tie as tie
 
-cast-x : tie.Need-cast-x
-cast-x c = search needs
-
-mul-result : tie.Need-mul-result
-mul-result c = search needs
-
-add-result : tie.Need-add-result
-add-result c = search needs
-
-mul-result-2 : tie.Need-mul-result-2
-mul-result-2 c = search needs
-
-add-result-2 : tie.Need-add-result-2
-add-result-2 c = search needs
-
-mul-result-3 : tie.Need-mul-result-3
-mul-result-3 c = search needs
-
-element-copy-out-result : tie.Need-element-copy-out-result
-element-copy-out-result c = search needs
-
-mul-result-4 : tie.Need-mul-result-4
-mul-result-4 c = search needs
-
-mul-result-5 : tie.Need-mul-result-5
-mul-result-5 c = search needs
-
-add-result-3 : tie.Need-add-result-3
-add-result-3 c = search needs
-
-mul-result-6 : tie.Need-mul-result-6
-mul-result-6 c = search needs
-
-element-copy-out-result-2 : tie.Need-element-copy-out-result-2
-element-copy-out-result-2 c = search needs
-
 returns : tie.Need-returns
 returns c =
     let a = c .before .before .args in
@@ -58,16 +22,16 @@ pub look-spec : {M : Type 1} → statement M
 look-spec =
     tie.close
     (tie.spec
-    cast-x
-    mul-result
-    add-result
-    mul-result-2
-    add-result-2
-    mul-result-3
-    element-copy-out-result
-    mul-result-4
-    mul-result-5
-    add-result-3
-    mul-result-6
-    element-copy-out-result-2
+    (λ c. search needs)
+    (λ c. search needs)
+    (λ c. search needs)
+    (λ c. search needs)
+    (λ c. search needs)
+    (λ c. search needs)
+    (λ c. search needs)
+    (λ c. search needs)
+    (λ c. search needs)
+    (λ c. search needs)
+    (λ c. search needs)
+    (λ c. search needs)
     returns)

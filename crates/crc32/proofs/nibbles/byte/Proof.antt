@@ -7,16 +7,10 @@ use borrow.Author.Needs.{needs}
 use Rattle.crc32.proofs.nibbles.byte.Statement.{statement}
 use Rattle.crc32.proofs.nibbles.byte.Tie as tie
 
-half-requires : tie.Need-half-requires
-half-requires c κs = search needs
-
-half-requires-2 : tie.Need-half-requires-2
-half-requires-2 c κs = search needs
-
 returns : tie.Need-returns
 returns c =
     let a = c .before .before .args in
     c .half2 .ensures ∙ ap (shifts 4) (c .before .half .ensures) ∙ sym (byte-halves (a .c) (a .b) (search needs))
 
 pub byte-spec : {M : Type 1} → statement M
-byte-spec = tie.close (tie.spec half-requires half-requires-2 returns)
+byte-spec = tie.close (tie.spec (λ c κs. search needs) (λ c κs. search needs) returns)

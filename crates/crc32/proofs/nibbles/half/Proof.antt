@@ -8,13 +8,10 @@ use borrow.Author.Needs.{needs}
 use Rattle.crc32.proofs.nibbles.half.Statement.{statement}
 use Rattle.crc32.proofs.nibbles.half.Tie as tie
 
-nibble-requires : tie.Need-nibble-requires
-nibble-requires c κs = search needs
-
 returns : tie.Need-returns
 returns c =
     let x = c .before .args .c in
     ap (λ (y : ℕ). bitXor y (x / 16)) (c .nibble .ensures) ∙ sym (shifts-split 4 x)
 
 pub half-spec : {M : Type 1} → statement M
-half-spec = tie.close (tie.spec nibble-requires returns)
+half-spec = tie.close (tie.spec (λ c κs. search needs) returns)

@@ -1,50 +1,23 @@
 -- `crc32::rows::fours` meets its contract. The loop's invariant: the rest of the run from here is the whole run.
 -- Assumes nothing.
-use mathlib.Core.Path.{_≡_, refl, ap, _∙_}
-use Prim.Native.Nat.{ℕ, _+_, _-_, _≤_}
+use Prim.Native.Nat.{_-_}
+use mathlib.Core.Path.{_∙_}
 use borrow.Author.Needs.{needs}
-use denote.Ref.{now}
-use lib.ListN.{length, take, drop}
-use Rattle.crc32.specs.Crc.{bytesIn}
+use lib.ListN.{length}
 use Rattle.crc32.specs.Steps.{turns}
-use Rattle.crc32.proofs.Slices.{onward}
+use Rattle.crc32.proofs.Slices.{Underway, underway-none, underway-on}
 use Rattle.crc32.proofs.rows.fours.Statement.{statement}
 use Rattle.crc32.proofs.rows.fours.Tie as tie
 
 abbrev Inv-loop : tie.InvT-loop
-Inv-loop t c s at c₀ i₀ c' i = (i ≤ length s) × (bytesIn c' (drop i s) ≡ bytesIn c (drop at s))
+Inv-loop t c s at c₀ i₀ c' i = Underway c at s c' i
 
 abbrev μ-loop : tie.MeasureT-loop
 μ-loop t c s at c₀ i₀ c' i = length s - i
 
-loop-holds : tie.Need-loop-holds Inv-loop μ-loop
-loop-holds c = (search needs, refl)
-
-sub-loop : tie.Need-sub-loop Inv-loop μ-loop
-sub-loop c = search needs
-
-four-requires : tie.Need-four-requires Inv-loop μ-loop
-four-requires c κs = search needs
-
-add-i : tie.Need-add-i Inv-loop μ-loop
-add-i c = search needs
-
-loop-less : tie.Need-loop-less Inv-loop μ-loop
-loop-less c = search needs
-
 loop-again : tie.Need-loop-again Inv-loop μ-loop
 unfolding turns
-loop-again c =
-    let l = c .before .before .loop in
-    let s = now (c .before .before .before .before .args .s) in
-    let e : c .four .result ≡ bytesIn (l .c) (take 4 (drop (l .i) s)) = c .four .ensures in
-    (search needs, ap (λ (x : ℕ). bytesIn x (drop (l .i + 4) s)) e ∙ onward 4 (l .i) (l .c) s ∙ l .inv .1)
-
-ones-requires : tie.Need-ones-requires Inv-loop μ-loop
-ones-requires c κs = search needs
-
-returns : tie.Need-returns Inv-loop μ-loop
-returns c = c .ones .ensures ∙ c .before .before .loop .inv .1
+loop-again c = underway-on _ _ _ _ _ (c .before .before .loop .inv) 4 _ (search needs) (c .four .ensures)
 
 pub fours-spec : {M : Type 1} → statement M
 fours-spec =
@@ -52,11 +25,11 @@ fours-spec =
     (tie.spec
     Inv-loop
     μ-loop
-    loop-holds
-    sub-loop
-    four-requires
-    add-i
-    loop-less
+    (λ c. underway-none _ _ _ (search needs))
+    (λ c. search needs)
+    (λ c κs. search needs)
+    (λ c. search needs)
+    (λ c. search needs)
     loop-again
-    ones-requires
-    returns)
+    (λ c κs. search needs)
+    (λ c. c .ones .ensures ∙ c .before .before .loop .inv .run))

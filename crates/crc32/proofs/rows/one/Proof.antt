@@ -9,9 +9,6 @@ use borrow.Author.Needs.{needs}
 use Rattle.crc32.proofs.rows.one.Statement.{statement}
 use Rattle.crc32.proofs.rows.one.Tie as tie
 
-look-requires : tie.Need-look-requires
-look-requires c κs = search needs
-
 returns : tie.Need-returns
 unfolding turns
 returns c =
@@ -19,4 +16,4 @@ returns c =
     ap (λ (x : ℕ). bitXor x (a .c / 256)) (c .look .ensures) ∙ sym (byte-split (a .c) (a .b) (search needs))
 
 pub one-spec : {M : Type 1} → statement M
-one-spec = tie.close (tie.spec look-requires returns)
+one-spec = tie.close (tie.spec (λ c κs. search needs) returns)

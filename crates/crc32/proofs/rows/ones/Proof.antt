@@ -1,44 +1,17 @@
 -- `crc32::rows::ones` meets its contract. The loop's invariant: the rest of the run from here is the whole run.
 -- Assumes nothing.
-use mathlib.Core.Path.{_≡_, refl, sym, ap, _∙_}
-use Prim.Native.Nat.{ℕ, _+_, _-_, _≤_}
+use Prim.Native.Nat.{_-_}
 use borrow.Author.Needs.{needs}
-use denote.Ref.{now}
-use lib.ListN.{length, drop}
-use Rattle.crc32.specs.Crc.{bytesIn}
-use Rattle.crc32.proofs.Slices.{onward-one, no-more}
+use lib.ListN.{length}
+use Rattle.crc32.proofs.Slices.{Underway, underway-none, underway-one, underway-out}
 use Rattle.crc32.proofs.rows.ones.Statement.{statement}
 use Rattle.crc32.proofs.rows.ones.Tie as tie
 
 abbrev Inv-loop : tie.InvT-loop
-Inv-loop t c s at c₀ i₀ c' i = (i ≤ length s) × (bytesIn c' (drop i s) ≡ bytesIn c (drop at s))
+Inv-loop t c s at c₀ i₀ c' i = Underway c at s c' i
 
 abbrev μ-loop : tie.MeasureT-loop
 μ-loop t c s at c₀ i₀ c' i = length s - i
-
-loop-holds : tie.Need-loop-holds Inv-loop μ-loop
-loop-holds c = (search needs, refl)
-
-shared-slice-read-one : tie.Need-shared-slice-read-one Inv-loop μ-loop
-shared-slice-read-one c = search needs
-
-one-requires : tie.Need-one-requires Inv-loop μ-loop
-one-requires c κs = search needs
-
-add-i : tie.Need-add-i Inv-loop μ-loop
-add-i c = search needs
-
-loop-less : tie.Need-loop-less Inv-loop μ-loop
-loop-less c = search needs
-
-loop-again : tie.Need-loop-again Inv-loop μ-loop
-loop-again c =
-    let l = c .before .before .before .loop in
-    let s = now (c .before .before .before .before .before .args .s) in
-    (search needs, ap (λ (x : ℕ). bytesIn x (drop (l .i + 1) s)) (c .one .ensures) ∙ onward-one (l .i) (l .c) s (search needs) ∙ l .inv .1)
-
-returns : tie.Need-returns Inv-loop μ-loop
-returns c = sym (no-more (c .before .loop .i) (c .before .loop .c) (now (c .before .before .before .args .s)) (search needs)) ∙ c .before .loop .inv .1
 
 pub ones-spec : {M : Type 1} → statement M
 ones-spec =
@@ -46,10 +19,10 @@ ones-spec =
     (tie.spec
     Inv-loop
     μ-loop
-    loop-holds
-    shared-slice-read-one
-    one-requires
-    add-i
-    loop-less
-    loop-again
-    returns)
+    (λ c. underway-none _ _ _ (search needs))
+    (λ c. search needs)
+    (λ c κs. search needs)
+    (λ c. search needs)
+    (λ c. search needs)
+    (λ c. underway-one _ _ _ _ _ (c .before .before .before .loop .inv) _ (search needs) (c .one .ensures))
+    (λ c. underway-out _ _ _ _ _ (c .before .loop .inv) (search needs)))

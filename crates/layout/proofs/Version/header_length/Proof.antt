@@ -6,12 +6,6 @@ use Rattle.layout.specs.Layout.{headerLength}
 use Rattle.layout.proofs.Version.header_length.Statement.{statement}
 use Rattle.layout.proofs.Version.header_length.Tie as tie
 
-enum-told : tie.Need-enum-told
-enum-told c = search needs
-
-enum-told-2 : tie.Need-enum-told-2
-enum-told-2 c = search needs
-
 returns : tie.Need-returns
 returns c = (sym (ap headerLength (c .enum-told .given .1)), omega arith)
 
@@ -19,4 +13,4 @@ returns-2 : tie.Need-returns-2
 returns-2 c = (sym (ap headerLength (c .enum-told2 .given .1)), omega arith)
 
 pub header-length-spec : {M : Type 1} → statement M
-header-length-spec = tie.close (tie.spec enum-told enum-told-2 returns returns-2)
+header-length-spec = tie.close (tie.spec (λ c. search needs) (λ c. search needs) returns returns-2)

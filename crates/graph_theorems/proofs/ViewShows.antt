@@ -7,26 +7,20 @@ use borrow.Author.Tests.{le-ltb, lt-leb, le-leb}
 use lib.ListN.{length, getD, replicate}
 use Rattle.fields.specs.Fields.{num}
 use Rattle.config.specs.declared.Config.{Config}
-use Rattle.refusal.specs.Refusal.{Result, answer, refused}
+use Rattle.refusal.specs.Refusal.{answer, refused}
 use Rattle.refusal.specs.declared.Refusal.the-variants.{NoSuchNode}
 use Rattle.refusal.proofs.Results.{passed, answer-injective, go-on}
 use Rattle.graph.specs.Graph.{Links, Graph, levelsOf, neighboursOf}
 use Rattle.graph.specs.Layout.{firstNode, linksLength, nodeLength, startsFrom}
 use Rattle.graph.specs.Cache.{Cache, numbersAt, levelsAt, linksAt, readHeader, readGraph, readCache}
 use Rattle.graph.specs.Decoded.{graphAt, heightAt, Laid}
-use Rattle.graph.specs.Neighbours.{Part, levelPart, levelAbove, neighbours}
+use Rattle.graph.specs.Neighbours.{levelPart, levelAbove, neighbours}
 use Rattle.graph.specs.Sound.{Sound}
 use Rattle.graph.specs.Told.{startsAfter}
+use Rattle.graph_theorems.specs.CacheViewed.{Shows}
 use Rattle.graph.proofs.Decode.{length-numbers}
 use Rattle.graph.proofs.Head.{header-read}
 use Rattle.graph.proofs.Body.{body-read, graph-read, laid-body, laid-height, cache-sound}
-
--- a part is given, and its bytes stand for these neighbours
-pub record Shows (s : List ℕ) (r : Result Part) (wanted : List ℕ) : Type 0 where
-  pub shown : Part
-  pub is : r ≡ answer shown
-  pub size-is : shown .size ≡ 4 * length wanted
-  pub numbers : numbersAt (length wanted) s (shown .at) ≡ wanted
 
 level-fits : (s : List ℕ) (at : ℕ) → at + 4 + 4 * num s at 4 ≤ length s → levelPart s at ≡ answer (record { at = at + 4; size = 4 * num s at 4 })
 unfolding levelPart

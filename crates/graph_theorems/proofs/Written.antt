@@ -1,10 +1,10 @@
 -- An accepted cache is the layout of the graph that is read from it, byte for byte.
-use Prim.Native.Nat.{ℕ, _+_, _-_, _≤_}
+use Prim.Native.Nat.{ℕ, _+_, _-_}
 use mathlib.Core.Path.{_≡_, refl, sym, ap, ap₂, subst, _∙_}
 use mathlib.Core.Bool.{Bool, true, false, not, cond}
 use mathlib.Core.List.{List, _++_}
 use native.Mathlib.Omega.{arith}
-use borrow.Author.Tests.{eqb-true, ltb-false, not-false}
+use borrow.Author.Tests.{eqb-true, not-false}
 use lib.Dec.{ltb, leb, eqb}
 use lib.ListN.{length}
 use Rattle.fields.specs.Fields.{part, num, le, bytes, Bytes}
@@ -12,49 +12,21 @@ use Rattle.fields.proofs.Parts.{part-split, part-all}
 use Rattle.fields.proofs.Numbers.{bytes-num}
 use Rattle.crc32.specs.Crc.{crcOf}
 use Rattle.layout.specs.Layout.{crcLength}
-use Rattle.config.specs.Limits.{minCacheBytes, maxCacheBytes}
 use Rattle.config.specs.Settings.{validate}
 use Rattle.config.specs.declared.Config.{Config}
-use Rattle.refusal.specs.Refusal.{answer, _>>=_, refuse, passes}
-use Rattle.refusal.specs.declared.Refusal.the-variants.{LengthOutOfBounds, BytesLeftOver, WrongFileCrc, StaleCache, WrongNodeCount, WrongEntry, MissingEntry}
+use Rattle.refusal.specs.Refusal.{answer, _>>=_, refuse}
+use Rattle.refusal.specs.declared.Refusal.the-variants.{BytesLeftOver, WrongFileCrc, WrongEntry, MissingEntry}
 use Rattle.refusal.proofs.Results.{went, passed, answer-injective, refused-no-answer}
 use Rattle.graph.specs.Graph.{Graph, noEntry, entryOf}
-use Rattle.graph.specs.Layout.{magic, version, versionPlace, snapshotCrcPlace, sequencePlace, nodesPlace, entryPlace, rngPlace, firstNode, graphBytes, graphLength, entryNumber, headerBytes, bodyBytes, cacheBytes}
+use Rattle.graph.specs.Layout.{cacheMagic, version, entryPlace, rngPlace, firstNode, graphBytes, graphLength, entryNumber, headerBytes, bodyBytes, cacheBytes}
 use Rattle.graph.specs.Cache.{Cache, headTest, roomTest, readHeader, readNodes, readBody, readGraph, readCache}
 use Rattle.graph.specs.declared.Entry.{Entry}
 use Rattle.graph.specs.declared.Entry.the-variants as Entries
-use Rattle.graph.specs.declared.Header.{Header}
+use Rattle.graph.specs.declared.CacheHeader.{CacheHeader}
 use Rattle.graph.proofs.Several.{did-pass}
+use Rattle.graph.proofs.Head.{HeadPassed, head-passed}
 use Rattle.graph.proofs.Body.{body-read, graph-read}
-use Rattle.graph_theorems.specs.Laid.{graph-laid}
-
--- what the head's tests say of its fields
-record Fields (crc sequence count : ℕ) (s : List ℕ) : Type 0 where
-  long : minCacheBytes ≤ length s
-  is-magic : num s 0 8 ≡ le magic
-  is-version : num s versionPlace 4 ≡ version
-  is-crc : num s snapshotCrcPlace 4 ≡ crc
-  is-sequence : num s sequencePlace 8 ≡ sequence
-  is-count : num s nodesPlace 8 ≡ count
-
-fields-of : (crc sequence count : ℕ) (s : List ℕ) → headTest crc sequence count s ≡ passes → Fields crc sequence count s
-unfolding headTest
-fields-of crc sequence count s e =
-    let a = went LengthOutOfBounds (ltb (length s) minCacheBytes) _ tt e in
-    let b = went LengthOutOfBounds (ltb maxCacheBytes (length s)) _ tt (a .then) in
-    let m = went StaleCache (not (eqb (num s 0 8) (le magic))) _ tt (b .then) in
-    let v = went StaleCache (not (eqb (num s versionPlace 4) version)) _ tt (m .then) in
-    let c = went StaleCache (not (eqb (num s snapshotCrcPlace 4) crc)) _ tt (v .then) in
-    let q = went StaleCache (not (eqb (num s sequencePlace 8) sequence)) _ tt (c .then) in
-    let n = went WrongNodeCount (not (eqb (num s nodesPlace 8) count)) _ tt (q .then) in
-    record {
-      long = ltb-false _ _ (a .test-false);
-      is-magic = eqb-true _ _ (not-false _ (m .test-false));
-      is-version = eqb-true _ _ (not-false _ (v .test-false));
-      is-crc = eqb-true _ _ (not-false _ (c .test-false));
-      is-sequence = eqb-true _ _ (not-false _ (q .test-false));
-      is-count = eqb-true _ _ (not-false _ (n .test-false));
-    }
+use Rattle.graph_theorems.proofs.Laid.{graph-laid}
 
 -- an entry that was read is written as it stood
 entry-back : (count n : ℕ) (entry : Entry) → entryOf count n ≡ answer entry → entryNumber entry ≡ n
@@ -75,27 +47,27 @@ entry-back count n entry e = go (eqb n noEntry) refl e
     go true q e = none (ltb 0 count) q e
     go false q e = some (leb count n) e
 
-magic-back : bytes 8 (le magic) ≡ magic
+magic-back : bytes 8 (le cacheMagic) ≡ cacheMagic
 unfolding bytes le
 magic-back = refl
 
 -- six fields and the magic are the first 48 bytes
-header-laid : (s : List ℕ) → Bytes s → (crc sequence count entry rng : ℕ) → Fields crc sequence count s → entry ≡ num s entryPlace 8 → rng ≡ num s rngPlace 8
-    → magic ++ bytes 4 version ++ bytes 4 crc ++ bytes 8 sequence ++ bytes 8 count ++ bytes 8 entry ++ bytes 8 rng ≡ part s 0 firstNode
+header-laid : (s : List ℕ) → Bytes s → (crc sequence count entry rng : ℕ) → HeadPassed crc sequence count s → entry ≡ num s entryPlace 8 → rng ≡ num s rngPlace 8
+    → cacheMagic ++ bytes 4 version ++ bytes 4 crc ++ bytes 8 sequence ++ bytes 8 count ++ bytes 8 entry ++ bytes 8 rng ≡ part s 0 firstNode
 header-laid s b crc sequence count entry rng f e r =
     let l = f .long in
-    let m : magic ≡ part s 0 8 = sym magic-back ∙ ap (bytes 8) (sym (f .is-magic)) ∙ bytes-num s 0 8 b (omega arith) in
+    let m : cacheMagic ≡ part s 0 8 = sym magic-back ∙ ap (bytes 8) (sym (f .is-magic)) ∙ bytes-num s 0 8 b (omega arith) in
     let v : bytes 4 version ≡ part s 8 4 = ap (bytes 4) (sym (f .is-version)) ∙ bytes-num s 8 4 b (omega arith) in
     let c : bytes 4 crc ≡ part s 12 4 = ap (bytes 4) (sym (f .is-crc)) ∙ bytes-num s 12 4 b (omega arith) in
     let q : bytes 8 sequence ≡ part s 16 8 = ap (bytes 8) (sym (f .is-sequence)) ∙ bytes-num s 16 8 b (omega arith) in
     let n : bytes 8 count ≡ part s 24 8 = ap (bytes 8) (sym (f .is-count)) ∙ bytes-num s 24 8 b (omega arith) in
     let t : bytes 8 entry ≡ part s 32 8 = ap (bytes 8) e ∙ bytes-num s 32 8 b (omega arith) in
     let g : bytes 8 rng ≡ part s 40 8 = ap (bytes 8) r ∙ bytes-num s 40 8 b (omega arith) in
-    let a1 : magic ++ bytes 4 version ≡ part s 0 12 = ap₂ _++_ m v ∙ sym (part-split s 0 8 4) in
-    let a2 : magic ++ bytes 4 version ++ bytes 4 crc ≡ part s 0 16 = ap₂ _++_ a1 c ∙ sym (part-split s 0 12 4) in
-    let a3 : magic ++ bytes 4 version ++ bytes 4 crc ++ bytes 8 sequence ≡ part s 0 24 = ap₂ _++_ a2 q ∙ sym (part-split s 0 16 8) in
-    let a4 : magic ++ bytes 4 version ++ bytes 4 crc ++ bytes 8 sequence ++ bytes 8 count ≡ part s 0 32 = ap₂ _++_ a3 n ∙ sym (part-split s 0 24 8) in
-    let a5 : magic ++ bytes 4 version ++ bytes 4 crc ++ bytes 8 sequence ++ bytes 8 count ++ bytes 8 entry ≡ part s 0 40 = ap₂ _++_ a4 t ∙ sym (part-split s 0 32 8) in
+    let a1 : cacheMagic ++ bytes 4 version ≡ part s 0 12 = ap₂ _++_ m v ∙ sym (part-split s 0 8 4) in
+    let a2 : cacheMagic ++ bytes 4 version ++ bytes 4 crc ≡ part s 0 16 = ap₂ _++_ a1 c ∙ sym (part-split s 0 12 4) in
+    let a3 : cacheMagic ++ bytes 4 version ++ bytes 4 crc ++ bytes 8 sequence ≡ part s 0 24 = ap₂ _++_ a2 q ∙ sym (part-split s 0 16 8) in
+    let a4 : cacheMagic ++ bytes 4 version ++ bytes 4 crc ++ bytes 8 sequence ++ bytes 8 count ≡ part s 0 32 = ap₂ _++_ a3 n ∙ sym (part-split s 0 24 8) in
+    let a5 : cacheMagic ++ bytes 4 version ++ bytes 4 crc ++ bytes 8 sequence ++ bytes 8 count ++ bytes 8 entry ≡ part s 0 40 = ap₂ _++_ a4 t ∙ sym (part-split s 0 32 8) in
     ap₂ _++_ a5 g ∙ sym (part-split s 0 40 8)
 
 crc-of-body : (m count : ℕ) (s : List ℕ) (g : Graph) → readBody m count s ≡ answer g → num s (length s - crcLength) 4 ≡ crcOf (part s 0 (length s - crcLength))
@@ -120,10 +92,10 @@ cache-is-its-layout c crc sequence count lent s b x e =
     let en = passed (entryOf count (num s entryPlace 8)) _ h (hd .then) in
     let rm = passed (roomTest (c .seed) count lent s) _ h (en .then) in
     let j : record { entry = en .value; «rng_state» = num s rngPlace 8 } ≡ h = answer-injective _ h (rm .then) in
-    let f = fields-of crc sequence count s (did-pass _ (hd .value) (hd .first)) in
+    let f = head-passed crc sequence count s (did-pass _ (hd .value) (hd .first)) in
     let long = f .long in
-    let entry : entryNumber (h .entry) ≡ num s entryPlace 8 = sym (ap (λ (y : Header). entryNumber (y .entry)) j) ∙ entry-back count (num s entryPlace 8) (en .value) (en .first) in
-    let rng : h .«rng_state» ≡ num s rngPlace 8 = sym (ap (λ (y : Header). y .«rng_state») j) in
+    let entry : entryNumber (h .entry) ≡ num s entryPlace 8 = sym (ap (λ (y : CacheHeader). entryNumber (y .entry)) j) ∙ entry-back count (num s entryPlace 8) (en .value) (en .first) in
+    let rng : h .«rng_state» ≡ num s rngPlace 8 = sym (ap (λ (y : CacheHeader). y .«rng_state») j) in
     let r = graph-read (c .m) count (h .entry) s g (rest .first) in
     let k = body-read (c .m) count s g (r .body) in
     let end = length s - crcLength in

@@ -14,35 +14,23 @@ use Rattle.crc32.specs.Crc.{crcOf}
 use Rattle.crc32.proofs.Bytes.{crc-lt}
 use Rattle.rng.specs.Rng.{rngState}
 use Rattle.layout.specs.Layout.{crcLength}
-use Rattle.config.specs.Limits.{maxCacheBytes, maxRecords, maxM}
-use Rattle.config.specs.Settings.{validate}
+use Rattle.config.specs.Limits.{maxRecords, maxM}
 use Rattle.config.specs.declared.Config.{Config}
 use Rattle.config.proofs.Laws.{bounded-of-valid}
 use Rattle.refusal.specs.Refusal.{answer, passes}
 use Rattle.refusal.proofs.Results.{passed}
 use Rattle.graph.specs.Graph.{Graph, Links, nodesTest, linkedTest, graphTest, entryOf}
-use Rattle.graph.specs.Layout.{magic, version, versionPlace, snapshotCrcPlace, sequencePlace, nodesPlace, entryPlace, rngPlace, firstNode, nodeBytes, graphBytes, linksLength, nodeLength, graphLength, entryNumber, headerBytes, bodyBytes, cacheBytes}
+use Rattle.graph.specs.Layout.{cacheMagic, cacheMagicNumber, version, versionPlace, snapshotCrcPlace, sequencePlace, nodesPlace, entryPlace, rngPlace, firstNode, nodeBytes, graphBytes, linksLength, nodeLength, graphLength, entryNumber, headerBytes, bodyBytes, cacheBytes}
 use Rattle.graph.specs.Cache.{several, readNode, headTest, roomTest, readHeader, readNodes, readBody, readGraph, readCache}
 use Rattle.graph.specs.Decoded.{EntryIn}
 use Rattle.graph.specs.declared.Entry.{Entry}
 use Rattle.graph.specs.declared.Entry.the-variants as Entries
 use Rattle.graph.proofs.Several.{did-pass}
-use Rattle.graph.proofs.Head.{check-passed, entry-in, head-good, header-good}
+use Rattle.graph.proofs.Head.{magic-is, check-passed, entry-in, head-good, header-good}
 use Rattle.graph.proofs.Body.{body-good, cache-good}
 use Rattle.graph.proofs.Tested.{levels-bounds}
-use Rattle.graph_theorems.specs.Back.{Here, here-first, here-then, here-num, length-node, length-joined, graph-back}
-
--- what a graph and what is said of its snapshot must be, for a cache to be written
-pub record Writable (c : Config) (crc sequence count lent : ℕ) (entry : Entry) (g : Graph) : Type 0 where
-  pub settings : validate c ≡ passes
-  pub sized : length g ≡ count
-  pub few : count ≤ maxRecords
-  pub enough : count ≤ lent
-  pub crc-fits : crc < 256 ^ 4
-  pub sequence-fits : sequence < 256 ^ 8
-  pub entered : entryOf count (entryNumber entry) ≡ answer entry
-  pub tested : graphTest (c .m) count entry g ≡ passes
-  pub short : firstNode + graphLength g + crcLength ≤ maxCacheBytes
+use Rattle.graph_theorems.specs.CacheReadBack.{Writable}
+use Rattle.graph_theorems.proofs.Back.{Here, here-first, here-then, here-num, length-node, length-joined, graph-back}
 
 rng-fits : (seed count : ℕ) → rngState seed count < 256 ^ 8
 unfolding rngState
@@ -69,7 +57,7 @@ fives (links ∷ xs) h =
 
 -- ---- the header's fields, where they are written
 record Fields (s : List ℕ) (crc sequence count entry rng : ℕ) : Type 0 where
-  is-magic : num s 0 8 ≡ 5210736590506378582
+  is-magic : num s 0 8 ≡ cacheMagicNumber
   is-version : num s versionPlace 4 ≡ version
   is-crc : num s snapshotCrcPlace 4 ≡ crc
   is-sequence : num s sequencePlace 8 ≡ sequence
@@ -77,28 +65,24 @@ record Fields (s : List ℕ) (crc sequence count entry rng : ℕ) : Type 0 where
   is-entry : num s entryPlace 8 ≡ entry
   is-rng : num s rngPlace 8 ≡ rng
 
-magic-is : le magic ≡ 5210736590506378582
-unfolding le
-magic-is = refl
-
 abbrev upTo-version : List ℕ
-upTo-version = magic ++ bytes 4 version
+upTo-version = cacheMagic ++ bytes 4 version
 
 abbrev upTo-crc : ℕ → List ℕ
-upTo-crc crc = magic ++ bytes 4 version ++ bytes 4 crc
+upTo-crc crc = cacheMagic ++ bytes 4 version ++ bytes 4 crc
 
 abbrev upTo-sequence : ℕ → ℕ → List ℕ
-upTo-sequence crc sequence = magic ++ bytes 4 version ++ bytes 4 crc ++ bytes 8 sequence
+upTo-sequence crc sequence = cacheMagic ++ bytes 4 version ++ bytes 4 crc ++ bytes 8 sequence
 
 abbrev upTo-count : ℕ → ℕ → ℕ → List ℕ
-upTo-count crc sequence count = magic ++ bytes 4 version ++ bytes 4 crc ++ bytes 8 sequence ++ bytes 8 count
+upTo-count crc sequence count = cacheMagic ++ bytes 4 version ++ bytes 4 crc ++ bytes 8 sequence ++ bytes 8 count
 
 abbrev upTo-entry : ℕ → ℕ → ℕ → ℕ → List ℕ
-upTo-entry crc sequence count entry = magic ++ bytes 4 version ++ bytes 4 crc ++ bytes 8 sequence ++ bytes 8 count ++ bytes 8 entry
+upTo-entry crc sequence count entry = cacheMagic ++ bytes 4 version ++ bytes 4 crc ++ bytes 8 sequence ++ bytes 8 count ++ bytes 8 entry
 
 module _ (crc sequence count entry rng : ℕ) where
   length-version : length upTo-version ≡ 12
-  length-version = length-append magic (bytes 4 version) ∙ ap (λ (n : ℕ). 8 + n) (length-bytes 4 version)
+  length-version = length-append cacheMagic (bytes 4 version) ∙ ap (λ (n : ℕ). 8 + n) (length-bytes 4 version)
 
   length-crc : length (upTo-crc crc) ≡ 16
   length-crc = length-append upTo-version (bytes 4 crc) ∙ ap₂ _+_ length-version (length-bytes 4 crc)
@@ -123,10 +107,10 @@ module _ (crc sequence count entry rng : ℕ) where
       let hq = here-first s 0 (upTo-sequence crc sequence) (bytes 8 count) hn in
       let hc = here-first s 0 (upTo-crc crc) (bytes 8 sequence) hq in
       let hv = here-first s 0 upTo-version (bytes 4 crc) hc in
-      let hm = here-first s 0 magic (bytes 4 version) hv in
+      let hm = here-first s 0 cacheMagic (bytes 4 version) hv in
       record {
         is-magic = ap (λ (l : List ℕ). le (take 8 l)) (hm .is) ∙ magic-is;
-        is-version = here-num s 8 4 version (lit< tt) (here-then s 0 magic (bytes 4 version) 8 refl hv);
+        is-version = here-num s 8 4 version (lit< tt) (here-then s 0 cacheMagic (bytes 4 version) 8 refl hv);
         is-crc = here-num s 12 4 crc fc (here-then s 0 upTo-version (bytes 4 crc) 12 length-version hc);
         is-sequence = here-num s 16 8 sequence fq (here-then s 0 (upTo-crc crc) (bytes 8 sequence) 16 length-crc hq);
         is-count = here-num s 24 8 count fn (here-then s 0 (upTo-sequence crc sequence) (bytes 8 count) 24 length-sequence hn);
