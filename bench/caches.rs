@@ -7,14 +7,9 @@ include!("../target/bench/vecnook.rs");
 #[allow(dead_code)]
 mod beside;
 
-use beside::{Dice, Times, stack_of, time, turns};
+use beside::{Dice, Folder, PIECE, stack_of, tell, tell_heads, time, turns};
 use index::GraphState;
-use std::{
-    fs::{self, File},
-    hint::black_box,
-    io::Read,
-    path::{Path, PathBuf},
-};
+use std::{hint::black_box, path::Path};
 
 #[repr(C)]
 #[derive(Default, Debug, PartialEq)]
@@ -56,8 +51,6 @@ unsafe extern "C" {
 
 const SEQUENCE: u64 = 123_456;
 const CRC: u32 = 0x1234_5678;
-// the original's buffer
-const PIECE: usize = 64 * 1024;
 
 // Every list is full: 2M neighbours at level 0, M above, as far as there are so many other nodes with that level; each node is on
 // the next level with one chance in M.
@@ -100,37 +93,8 @@ fn cache(count: usize, m: usize) -> Vec<u8> {
     bytes
 }
 
-// A folder in memory, gone in the end.
-struct Folder(PathBuf);
-
-impl Folder {
-    fn new() -> Self {
-        let path = PathBuf::from(format!("/dev/shm/lambspool-bench-{}", std::process::id()));
-        fs::create_dir_all(&path).expect("a folder in /dev/shm");
-        Self(path)
-    }
-}
-
-impl Drop for Folder {
-    fn drop(&mut self) {
-        let _ = fs::remove_dir_all(&self.0);
-    }
-}
-
 fn read_original(folder: &Path, config: &Config, count: usize) -> GraphState {
     graph::read(folder, config, SEQUENCE, CRC, count).unwrap_or_else(|error| panic!("{error}"))
-}
-
-fn read_file(folder: &Path, piece: &mut [u8]) -> usize {
-    let mut file = File::open(folder.join("index.bin")).unwrap();
-    let mut all = 0;
-    loop {
-        let n = file.read(piece).unwrap();
-        if n == 0 {
-            return all;
-        }
-        all += n;
-    }
 }
 
 fn read_proved(bytes: &[u8], m: usize, count: usize, starts: &mut [u64]) -> Told {
@@ -183,25 +147,11 @@ fn hold_reading(bytes: &[u8], theirs: &GraphState, told: &Told, starts: &[u64]) 
     assert!(starts[nodes..].iter().all(|&word| word == 0), "zeros after");
 }
 
-fn tell([theirs, bare, ours]: [Times; 3], length: usize) {
-    print!("  reading ");
-    for t in [&theirs, &bare, &ours] {
-        print!("{:10.2}{:10.2}", t.best * 1e3, t.median * 1e3);
-    }
-    print!("{:9.2}{:7.2}", theirs.best / ours.best, theirs.median / ours.median);
-    println!(
-        "{:9.2}{:7.2}, wanted 3; {:.0} MB/s",
-        (theirs.best - bare.best) / ours.best,
-        (theirs.median - bare.median) / ours.median,
-        length as f64 / ours.median / 1e6
-    );
-}
-
 fn compare(count: usize, m: usize, rounds: usize) {
     let config = Config::new(16).with_m(m);
     let bytes = cache(count, m);
-    let folder = Folder::new();
-    fs::write(folder.0.join("index.bin"), &bytes).unwrap();
+    let folder = Folder::new("cache");
+    folder.write("index.bin", &bytes);
     let mut starts = vec![1u64; count + 8];
     let theirs = read_original(&folder.0, &config, count);
     let told = read_proved(&bytes, m, count, &mut starts);
@@ -214,21 +164,15 @@ fn compare(count: usize, m: usize, rounds: usize) {
         rounds,
         [
             &mut || time(|| read_original(black_box(&folder.0), &config, count)),
-            &mut || time(|| read_file(black_box(&folder.0), &mut piece)),
+            &mut || time(|| black_box(&folder).read("index.bin", &mut piece)),
             &mut || time(|| read_proved(black_box(&bytes), m, count, &mut starts)),
         ],
     );
-    tell(reading, bytes.len());
+    tell("reading", &reading, 3.0);
 }
 
 fn main() {
-    println!(
-        "thread time in ms, best and median, in turn; the speed is ours against the original's, with its file and without"
-    );
-    println!(
-        "{:10}{:>20}{:>20}{:>20}{:>16}{:>16}",
-        "", "original", "the bare file", "proved", "speed", "without file"
-    );
+    tell_heads();
     for (count, m, rounds) in [(10_000, 16, 31), (30_000, 16, 21), (100_000, 16, 15), (100_000, 64, 7)] {
         compare(count, m, rounds);
     }

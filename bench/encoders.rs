@@ -2,6 +2,7 @@
 // batches of 100, and holds their bytes to the original's. The original's frames are dropped as they are made: putting them
 // behind each other in one log, as ours stand, is not in its time.
 include!("../target/bench/vecnook.rs");
+#[allow(dead_code)]
 mod beside;
 
 use beside::{CAPTION, Dice, caption, stack_of, time, turns};

@@ -7,13 +7,12 @@
 include!("../target/bench/vecnook.rs");
 mod beside;
 
-use beside::{CAPTION, Dice, Times, caption, stack_of, time, turns};
+use beside::{CAPTION, Dice, Folder, MAX_RECORDS, PIECE, hold_records, stack_of, tell, tell_heads, time, turns};
 use std::{
-    collections::BTreeMap,
     fs::{self, File},
     hint::black_box,
-    io::{Read, Write},
-    path::{Path, PathBuf},
+    io::Write,
+    path::Path,
 };
 use storage::Recovered;
 
@@ -55,70 +54,14 @@ unsafe extern "C" {
 }
 
 const MAX_BYTES: usize = 268_435_456;
-const MAX_RECORDS: usize = 100_000;
 const SEQUENCE: u64 = 123_456;
-// the original's buffer
-const PIECE: usize = 64 * 1024;
 
-// All live; every other caption has letters beyond ASCII.
+// As many records as there may be.
 fn snapshot(d: usize, random: bool) -> Vec<u8> {
     let records = MAX_RECORDS.min((MAX_BYTES - 56) / (13 + 4 * d + CAPTION));
     let mut dice = Dice(88172645463325252);
-    let mut bytes = Vec::with_capacity(MAX_BYTES);
-    bytes.extend(b"VECTORS1");
-    // version, d, M, ef, metric: what `Config::new` gives
-    for number in [2, d as u32, 16, 200, 0] {
-        bytes.extend(number.to_le_bytes());
-    }
-    for number in [42, SEQUENCE, records as u64] {
-        bytes.extend(number.to_le_bytes());
-    }
-    for i in 0..records {
-        let id = if random { dice.roll() } else { 3 * i as u64 + 1 };
-        bytes.extend(id.to_le_bytes());
-        bytes.push(0);
-        for _ in 0..d {
-            bytes.extend(dice.coordinate().to_le_bytes());
-        }
-        bytes.extend((CAPTION as u32).to_le_bytes());
-        bytes.extend(caption(i, i % 2 == 0).as_bytes());
-    }
-    bytes.extend(storage::crc32(&bytes).to_le_bytes());
-    bytes
-}
-
-// A folder in memory, gone in the end.
-struct Folder(PathBuf);
-
-impl Folder {
-    fn new(name: &str) -> Self {
-        let path = PathBuf::from(format!("/dev/shm/lambspool-bench-{}-{name}", std::process::id()));
-        fs::create_dir_all(&path).expect("a folder in /dev/shm");
-        Self(path)
-    }
-}
-
-impl Drop for Folder {
-    fn drop(&mut self) {
-        let _ = fs::remove_dir_all(&self.0);
-    }
-}
-
-fn read_original(folder: &Path) -> Recovered {
-    let mut log = File::open(folder.join("wal.bin")).unwrap();
-    storage::inspect(folder, &mut log).unwrap_or_else(|error| panic!("{error}"))
-}
-
-fn read_file(folder: &Path, piece: &mut [u8]) -> usize {
-    let mut file = File::open(folder.join("snapshot.bin")).unwrap();
-    let mut all = 0;
-    loop {
-        let n = file.read(piece).unwrap();
-        if n == 0 {
-            return all;
-        }
-        all += n;
-    }
+    let ids: Vec<u64> = (0..records).map(|i| if random { dice.roll() } else { 3 * i as u64 + 1 }).collect();
+    beside::snapshot(d, SEQUENCE, &mut dice, &ids)
 }
 
 fn write_file(folder: &Path, bytes: &[u8]) {
@@ -185,54 +128,27 @@ fn write_proved(d: usize, bytes: &[u8], lent: &mut Lent) {
 
 // Everything that a reading gives but the settings.
 fn hold_reading(d: usize, bytes: &[u8], theirs: &Recovered, lent: &Lent) {
-    let size: usize = theirs.records.iter().map(Record::encoded_len).sum();
-    let mut map = BTreeMap::new();
-    for (node, record) in theirs.records.iter().enumerate() {
-        let (id, word) = (lent.rows[2 * node], lent.rows[2 * node + 1]);
-        let (n, at) = ((word >> 47 & 0x7fff) as usize, (word & ((1 << 47) - 1)) as usize);
-        let end = at + 4 * d;
-        assert!(id == record.id && word >> 63 == record.deleted as u64 && word >> 62 & 1 == 0, "row {node}");
-        assert!(bytes[at..end].chunks(4).eq(record.vector.iter().map(|v| v.to_le_bytes())), "vector {node}");
-        assert!(bytes[end + 4..end + 4 + n] == *record.metadata.as_bytes(), "caption {node}");
-        if !record.deleted {
-            map.insert(id, node as u32);
-        }
-    }
-    let crc = u32::from_le_bytes(bytes[bytes.len() - 4..].try_into().unwrap());
+    let (active, size) = hold_records(d, [bytes, &[]], &theirs.records, &lent.rows, &lent.active);
     let told = Told {
         refused: 0,
         sequence: theirs.sequence,
-        crc: crc as u64,
+        crc: u32::from_le_bytes(bytes[bytes.len() - 4..].try_into().unwrap()) as u64,
         records: theirs.records.len() as u64,
-        active: map.len() as u64,
-        size: size as u64,
+        active,
+        size,
     };
     assert_eq!(lent.told, told);
-    assert!(map.values().eq(&lent.active[..map.len()]), "active nodes");
-}
-
-fn tell(what: &str, [theirs, bare, ours]: [Times; 3], wanted: f64) {
-    print!("  {what:8}");
-    for t in [&theirs, &bare, &ours] {
-        print!("{:10.2}{:10.2}", t.best * 1e3, t.median * 1e3);
-    }
-    print!("{:9.2}{:7.2}", theirs.best / ours.best, theirs.median / ours.median);
-    println!(
-        "{:9.2}{:7.2}, wanted {wanted}",
-        (theirs.best - bare.best) / ours.best,
-        (theirs.median - bare.median) / ours.median
-    );
 }
 
 fn compare(d: usize, random: bool, rounds: usize) {
     let bytes = snapshot(d, random);
     let folder = Folder::new("read");
     let written = Folder::new("written");
-    fs::write(folder.0.join("snapshot.bin"), &bytes).unwrap();
-    fs::write(folder.0.join("wal.bin"), []).unwrap();
+    folder.write("snapshot.bin", &bytes);
+    folder.write("wal.bin", &[]);
     let mut lent = Lent::new(bytes.len());
 
-    let theirs = read_original(&folder.0);
+    let theirs = folder.inspect();
     read_proved(&bytes, &mut lent);
     hold_reading(d, &bytes, &theirs, &lent);
     let index = VectorIndex { config: theirs.config, records: theirs.records };
@@ -262,8 +178,8 @@ fn compare(d: usize, random: bool, rounds: usize) {
     let reading = turns(
         rounds,
         [
-            &mut || time(|| read_original(black_box(&folder.0))),
-            &mut || time(|| read_file(black_box(&folder.0), &mut piece)),
+            &mut || time(|| black_box(&folder).inspect()),
+            &mut || time(|| black_box(&folder).read("snapshot.bin", &mut piece)),
             &mut || time(|| read_proved(black_box(&bytes), &mut lent)),
         ],
     );
@@ -272,8 +188,8 @@ fn compare(d: usize, random: bool, rounds: usize) {
         (_, false) => (12.0, 12.0),
         (_, true) => (2.0, 1.0),
     };
-    tell("reading", reading, read);
-    tell("writing", writing, write);
+    tell("reading", &reading, read);
+    tell("writing", &writing, write);
 }
 
 fn tell_memory(d: usize, random: bool) {
@@ -291,13 +207,7 @@ fn tell_memory(d: usize, random: bool) {
 }
 
 fn main() {
-    println!(
-        "thread time in ms, best and median, in turn; the speed is ours against the original's, with its file and without"
-    );
-    println!(
-        "{:10}{:>20}{:>20}{:>20}{:>16}{:>16}",
-        "", "original", "the bare file", "proved", "speed", "without file"
-    );
+    tell_heads();
     let stores = [(16, false, 15), (16, true, 15), (768, false, 7), (768, true, 7)];
     for (d, random, rounds) in stores {
         compare(d, random, rounds);

@@ -10,7 +10,7 @@ import sys
 HERE = pathlib.Path(__file__).parent
 MOST = 2**64 - 1
 LONGEST = 65536
-STORE = 7, 10, 11, 12, 13, 16, 17, 18, 23
+STORE = 7, 8, 10, 11, 12, 13, 14, 15, 16, 17, 18, 19, 20, 23
 OF_EACH = 12
 SHORT = 600
 

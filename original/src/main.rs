@@ -31,7 +31,7 @@ original native-stream FILE                the native host on the requests of a 
 original native-short SEED N [KIND]        native, and every shorter memory for the text must be refused
 original large [NAME]                      lists the named cases, or runs one (`all`: all) beside the original
 original native-large [NAME]               the same with the native host
-KIND is mixed (default), pairs, caches, encoders, tables or small.
+KIND is mixed (default), pairs, recoveries (pairs, half of them written again), caches, encoders, tables or small.
 A call of not-yet.txt must be answered `not yet`, and is counted apart; of any other call `not yet` is a difference.
 A difference is written to target/difference: request.bin, wanted.txt, given.txt.";
 

@@ -103,6 +103,7 @@ fn lines_of(
         10 | 11 | 12 | 13 | 21 | 22 | 23 => {
             answers_written::lines(call, request, words, entries, output, answer)
         }
+        8 | 14 | 15 => answers_recovery::lines(call, request, words, entries, output, answer),
         19 | 20 => answers_graph::lines(call, request, words, entries, answer),
         _ => text::line(answer, text::start(), b"not yet"),
     }

@@ -1,7 +1,6 @@
 // The answers of docs/QUESTIONS.md to calls that read a store: 7, 16, 17, 18. A tool for tests: proved to be safe and to end.
 pub mod records;
 
-use config::Config;
 use exchange::atoms;
 use exchange::request;
 use exchange::text;
@@ -46,7 +45,7 @@ fn accepted(
     answer: &mut [u8],
 ) -> Cursor {
     let config = info.config;
-    let a = heading(answer, config, info.crc, info.sequence);
+    let a = records::heading(answer, config, info.crc, info.sequence);
     let b = counts(answer, a, info.records, info.active, info.size);
     let c = records::tables(answer, b, rows, active);
     records::lines(
@@ -58,13 +57,6 @@ fn accepted(
         &bytes[..0],
         config.dimensions,
     )
-}
-
-fn heading(answer: &mut [u8], config: Config, crc: u32, sequence: u64) -> Cursor {
-    let a = text::put(answer, text::start(), b"accepted ");
-    let b = atoms::set(answer, a, config);
-    let c = text::named(answer, b, b" crc ", crc as u64);
-    text::named(answer, c, b" sequence ", sequence)
 }
 
 fn counts(answer: &mut [u8], c: Cursor, records: usize, active: usize, size: usize) -> Cursor {

@@ -1,10 +1,18 @@
 // What the tables hold after a reading: their words, and each record by its row and the views.
+use config::Config;
 use exchange::atoms;
 use exchange::text;
 use exchange::text::Cursor;
 use rows::Id;
 use rows::Node;
 use rows::Row;
+
+pub fn heading(answer: &mut [u8], config: Config, crc: u32, sequence: u64) -> Cursor {
+    let a = text::put(answer, text::start(), b"accepted ");
+    let b = atoms::set(answer, a, config);
+    let c = text::named(answer, b, b" crc ", crc as u64);
+    text::named(answer, c, b" sequence ", sequence)
+}
 
 pub fn tables(answer: &mut [u8], c: Cursor, rows: &[u64], active: &[u32]) -> Cursor {
     let at = atoms::words_line(answer, c, b"rows ", rows, &active[..0]);

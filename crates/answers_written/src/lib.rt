@@ -101,7 +101,7 @@ fn write(call: u8, request: &[u8], rows: &[u64], output: &mut [u8]) -> Written {
     writer::write_snapshot(config, sequence, rows, count, snapshot, log, output)
 }
 
-fn written(answer: &mut [u8], told: Written) -> Cursor {
+pub fn written(answer: &mut [u8], told: Written) -> Cursor {
     match told {
         Written::Bytes(n) => text::number_line(answer, text::start(), b"written ", n as u64),
         Written::Refused(why) => text::refused(answer, b"refused ", why),

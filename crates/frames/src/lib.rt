@@ -5,6 +5,7 @@ ghost use mathlib.Core.Path.{_≡_};
 ghost use mathlib.Core.List.{_∷_, _++_};
 ghost use Prim.Native.Nat.{_+_, _≤_};
 ghost use lib.ListN.{length};
+ghost use Rattle.crc32.specs.Steps.{Rows};
 ghost use Rattle.config.specs.Limits.{maxFrame};
 ghost use Rattle.layout.specs.Layout.{frameHead, frameLength};
 ghost use Rattle.refusal.specs.Refusal.{measured};
@@ -101,12 +102,14 @@ fn read_length(log: &[u8], at: usize) -> Measured
     Measured::Length(n)
 }
 
-// Internal: the frame of n payload bytes at `at` is all there. Where this is false the frame is refused by 23.
-pub fn payload_crc_holds(log: &[u8], at: usize, n: usize) -> bool
+// Internal: `tables` is what `crc32::tables` gives, and the frame of n payload bytes at `at` is all there.
+// Where this is false the frame is refused by 23.
+pub fn payload_crc_holds(tables: &[u32; 4096], log: &[u8], at: usize, n: usize) -> bool
+    requires { ⌜ Rows 16 (now tables) ⌝ }
     requires { ⌜ at + frameLength n ≤ length (now log) ⌝ }
     ensures { λ r. ⌜ r ≡ payloadCrcHolds (now (log .entry)) at n ⌝ }
 {
     let start = at + layout::FRAME_HEAD;
     let end = start + n;
-    crc32::crc32(&log[start..end]) == fields::get_u32(log, end)
+    crc32::crc32_with(tables, &log[start..end]) == fields::get_u32(log, end)
 }

@@ -11,7 +11,7 @@ use Rattle.refusal.specs.Refusal.{Result, answer, refused, _>>=_}
 use Rattle.refusal.specs.declared.Refusal.{Refusal}
 use Rattle.refusal.specs.declared.Refusal.the-variants.{WrongPayloadCrc, WrongSequence, BytesLeftOver, WrongBatchCount}
 use Rattle.refusal.specs.declared.Measured.the-variants as Measures
-use Rattle.refusal.proofs.Results.{stop, pass, go-on, give-up, passed, went, answer-injective, measured-is, measured-not}
+use Rattle.refusal.proofs.Results.{stop, pass, go-on, give-up, passed, went, answer-injective, sized-is, sized-not}
 use Rattle.config.specs.Limits.{maxBatchOperations}
 use Rattle.config.specs.declared.Config.{Config}
 use Rattle.layout.specs.Layout.{frameLength}
@@ -80,12 +80,12 @@ module _ (c : Config) (log : List ℕ) (previous at n : ℕ) where
     pub decode-refused : (why : Refusal) → nextsTold payloadBody ≡ Measures.Refused why → decodedAt c log previous at n ≡ refused why
     decode-refused why e =
         pass WrongSequence (outOfOrder previous payloadSequence) _ in-order
-        ∙ give-up payloadBody _ why (measured-not (λ x. x .next) payloadBody why e)
+        ∙ give-up payloadBody _ why (sized-not (λ x. x .next) payloadBody why e)
 
     pub decode-left-over : (next : ℕ) → nextsTold payloadBody ≡ Measures.Length next → (next ≡ at + 8 + n → ⊥)
         → decodedAt c log previous at n ≡ refused BytesLeftOver
     decode-left-over next e apart =
-        let y = measured-is (λ x. x .next) payloadBody next e in
+        let y = sized-is (λ x. x .next) payloadBody next e in
         let is : y .value .next ≡ next = y .size-is in
         pass WrongSequence (outOfOrder previous payloadSequence) _ in-order ∙ go-on payloadBody _ (y .value) (y .is)
         ∙ stop BytesLeftOver (not (eqb (y .value .next) (at + 8 + n))) _ (ap not (ne-eqb _ _ (λ q. apart (sym is ∙ q))))
@@ -94,7 +94,7 @@ module _ (c : Config) (log : List ℕ) (previous at n : ℕ) where
         → frameTold (frameRead (at + frameLength n) (decodedAt c log previous at n))
         ≡ Frames.Whole (record { start = at; sequence = payloadSequence; shape = payloadShape; operations = operationCount payloadShape log (at + 17); next = at + frameLength n })
     decode-whole next e same =
-        let y = measured-is (λ x. x .next) payloadBody next e in
+        let y = sized-is (λ x. x .next) payloadBody next e in
         let is : y .value .next ≡ next = y .size-is in
         ap (λ x. frameTold (frameRead (at + frameLength n) x))
         (pass WrongSequence (outOfOrder previous payloadSequence) _ in-order ∙ go-on payloadBody _ (y .value) (y .is)

@@ -1,10 +1,11 @@
--- What an operation's answer says of where it ends, the operations one by one, and that what is accepted ends before `end`.
+-- What an operation's answer says of where it ends, the operations one by one, that what is accepted ends before `end`, and what an
+-- accepted operation is.
 use Prim.Native.Nat.{ℕ, zero, suc, _+_, _*_, _-_, _≤_, _<_}
 use native.Mathlib.Omega.{arith}
 use mathlib.Core.Path.{_≡_, refl, sym, ap, subst, _∙_}
 use mathlib.Core.Bool.{Bool, true, false, cond}
 use mathlib.Core.List.{List, [], _∷_}
-use borrow.Author.Tests.{lt-ltb, le-ltb, ltb-false}
+use borrow.Author.Tests.{lt-ltb, le-ltb, ltb-false, eq-eqb, ne-eqb}
 use lib.Dec.{ltb, eqb}
 use lib.ListN.{length}
 use Rattle.refusal.specs.Refusal.{Result, answer, refused, _>>=_, refuse}
@@ -12,14 +13,16 @@ use Rattle.refusal.specs.declared.Refusal.the-variants.{PastTheEnd, UnknownOper
 use Rattle.refusal.specs.declared.Measured.{Measured}
 use Rattle.refusal.specs.declared.Measured.the-variants as Measures
 use Rattle.refusal.proofs.Results.{stop, pass, passed, went, answer-injective, refused-no-answer}
+use Rattle.config.specs.Settings.{captionLimit}
 use Rattle.config.specs.declared.Config.{Config}
+use Rattle.layout.specs.Layout.{itemLength}
 use Rattle.rows.specs.declared.Row.{Row}
 use Rattle.fields.specs.Fields.{num}
 use Rattle.meaning.specs.Item.{itemAt}
 use Rattle.meaning.specs.Replay.{Operation, put, remove}
 use Rattle.meaning.specs.Log as Meant
 use Rattle.meaning.specs.Log.{putRow, operationAt, operationsAt}
-use Rattle.items.proofs.ItemLaws.{item-within}
+use Rattle.items.proofs.ItemLaws.{item-within, caption-said}
 use Rattle.log.specs.declared.ReadOperation.{ReadOperation}
 use Rattle.log.specs.declared.ReadOperation.the-variants as Operations
 use Rattle.log.specs.Told.{operationThen, operationTold, nextTold, nextsTold}
@@ -69,6 +72,45 @@ next-within c log end tag at n e = go (operationAt c log end tag at) refl e
     go : (x : Result Meant.ReadOperation) → operationAt c log end tag at ≡ x → nextTold x ≡ Measures.Length n → n ≤ end
     go (answer y) h g = subst (λ (k : ℕ). k ≤ end) (ap lengthOf g) (operation-within c log end tag at y h)
     go (refused why) h g = absurd (let z : _≡_ {A = ℕ} 0 1 = cc in omega arith)
+
+-- ---- an operation that is accepted, by its tag
+-- a put whose ID stands at `at`: its caption's length stands behind the coordinates
+pub record PutStored (c : Config) (log : List ℕ) (end at n : ℕ) (x : Meant.ReadOperation) : Type 0 where
+  pub inside : at + 8 + itemLength (c .dimensions) n ≤ end
+  pub few : n ≤ captionLimit c
+  pub is : x ≡ putRow c log at n
+
+module _ (c : Config) (log : List ℕ) (end tag at : ℕ) (x : Meant.ReadOperation) (e : operationAt c log end tag at ≡ answer x) where
+  abbrev puts : Result Meant.ReadOperation
+  puts = itemAt PastTheEnd c log end (at + 8) >>= (λ n. answer (putRow c log at n))
+
+  abbrev removes : Meant.ReadOperation
+  removes = record { operation = remove (num log at 8); next = at + 8 }
+
+  pub stored-id : at + 8 ≤ end
+  unfolding operationAt
+  stored-id = ltb-false _ _ (went PastTheEnd (ltb end (at + 8)) _ x e .test-false)
+
+  -- 1 or 2
+  stored-tagged : cond (eqb tag 1) puts (cond (eqb tag 2) (answer removes) (refused UnknownOperation)) ≡ answer x
+  unfolding operationAt
+  stored-tagged = went PastTheEnd (ltb end (at + 8)) _ x e .then
+
+  pub stored-put : tag ≡ 1 → PutStored c log end at (num log (at + 8 + 4 * c .dimensions) 4) x
+  stored-put t =
+      let g : puts ≡ answer x = sym (ap (λ (b : Bool). cond b puts (cond (eqb tag 2) (answer removes) (refused UnknownOperation))) (eq-eqb tag 1 t)) ∙ stored-tagged in
+      let s = passed (itemAt PastTheEnd c log end (at + 8)) _ x g in
+      let w = item-within PastTheEnd c log end (at + 8) (s .value) (s .first) in
+      subst (λ (n : ℕ). PutStored c log end at n x) (sym (caption-said PastTheEnd c log end (at + 8) (s .value) (s .first)))
+      (record { inside = w .inside; few = w .few; is = sym (answer-injective _ x (s .then)) })
+
+  pub stored-remove : (tag ≡ 1 → ⊥) → x ≡ removes
+  stored-remove t =
+      go (eqb tag 2) (sym (ap (λ (b : Bool). cond b puts (cond (eqb tag 2) (answer removes) (refused UnknownOperation))) (ne-eqb tag 1 t)) ∙ stored-tagged)
+    where
+      go : (two : Bool) → cond two (answer removes) (refused UnknownOperation) ≡ answer x → x ≡ removes
+      go true g = sym (answer-injective _ x g)
+      go false g = absurd (refused-no-answer UnknownOperation x g)
 
 -- ---- operations one by one
 -- what follows one that is accepted

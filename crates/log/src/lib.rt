@@ -4,13 +4,17 @@
 ghost use mathlib.Core.Path.{_≡_};
 ghost use Prim.Native.Nat.{_+_, _≤_};
 ghost use lib.ListN.{length};
+ghost use Rattle.crc32.specs.Steps.{Rows};
 ghost use Rattle.config.specs.Limits.{minFrame, maxDimensions};
 ghost use Rattle.layout.specs.Layout.{itemLength, frameLength};
+ghost use Rattle.meaning.specs.Calls.{frameCall};
 ghost use Rattle.meaning.specs.Log.{putRow, operationAt, operationsAt, batchAt, operationsOf, shapeOf, outOfOrder, decodedAt, frameRead, frameAt};
+ghost use Rattle.log.specs.Stored.{Stored};
 ghost use Rattle.log.specs.Told.{operationRead, operationTold, nextTold, nextsTold, operationCount, frameTold};
 use config::Config;
 use frames::Envelope;
 use layout::Shape;
+use refusal::Checked;
 use refusal::Measured;
 use refusal::Refusal;
 use rows::Id;
@@ -231,9 +235,16 @@ fn decode(config: Config, log: &[u8], previous: u64, at: usize, n: usize) -> Rea
     })
 }
 
-// Internal: the settings are valid, and `at` is a byte of the log or its end.
+// Internal: `tables` is what `crc32::tables` gives, the settings are valid, and `at` is a byte of the log or its end.
 // What stands at `at`, where the frame before has the sequence `previous`, or 0 where there is none.
-pub fn read_frame(config: Config, log: &[u8], previous: u64, at: usize) -> ReadFrame
+pub fn read_frame(
+    tables: &[u32; 4096],
+    config: Config,
+    log: &[u8],
+    previous: u64,
+    at: usize,
+) -> ReadFrame
+    requires { ⌜ Rows 16 (now tables) ⌝ }
     requires { ⌜ config .dimensions ≤ maxDimensions ⌝ }
     requires { ⌜ at ≤ length (now log) ⌝ }
     ensures { λ r. ⌜ r ≡ frameTold (frameAt config (now (log .entry)) previous at) ⌝ }
@@ -241,11 +252,49 @@ pub fn read_frame(config: Config, log: &[u8], previous: u64, at: usize) -> ReadF
     match frames::read_envelope(log, at) {
         Envelope::TooLittle => ReadFrame::TooLittle,
         Envelope::Payload(n) => {
-            if !frames::payload_crc_holds(log, at, n) {
+            if !frames::payload_crc_holds(tables, log, at, n) {
                 return ReadFrame::Refused(Refusal::WrongPayloadCrc);
             }
             decode(config, log, previous, at, n)
         }
         Envelope::Refused(why) => ReadFrame::Refused(why),
     }
+}
+
+// A frame for users, as `read_frame` reads it, behind the tests of the settings: 6, 7, 8.
+pub fn frame_at(config: Config, log: &[u8], previous: u64, at: usize) -> ReadFrame
+    ensures { λ r. ⌜ r ≡ frameTold (frameCall config (now (log .entry)) previous at) ⌝ }
+{
+    match config.validate() {
+        Checked::Passed => valid_frame(config, log, previous, at),
+        Checked::Refused(why) => ReadFrame::Refused(why),
+    }
+}
+
+// A byte past the log's end has too little. The CRC's tables are made for this call.
+fn valid_frame(config: Config, log: &[u8], previous: u64, at: usize) -> ReadFrame
+    requires { ⌜ config .dimensions ≤ maxDimensions ⌝ }
+    ensures { λ r. ⌜ r ≡ frameTold (frameAt config (now (log .entry)) previous at) ⌝ }
+{
+    if log.len() < at {
+        return ReadFrame::TooLittle;
+    }
+    let tables = crc32::tables();
+    read_frame(&tables, config, log, previous, at)
+}
+
+// Internal: the settings are valid, `end` is not past the log's end, and the operation there was accepted.
+// As `read_operation`, with nothing tested again.
+pub fn stored_operation(config: Config, log: &[u8], end: usize, tag: u8, at: usize) -> ReadOperation
+    requires { ⌜ config .dimensions ≤ maxDimensions ⌝ }
+    requires { ⌜ end ≤ length (now log) ⌝ }
+    requires { ⌜ Stored (operationAt config (now log) end tag at) ⌝ }
+    ensures { λ r. ⌜ r ≡ operationTold (operationAt config (now (log .entry)) end tag at) ⌝ }
+{
+    let first = at + 8;
+    if tag == 1 {
+        let n = fields::get_u32(log, first + 4 * config.dimensions) as usize;
+        return put_at(config, log, at, n);
+    }
+    ReadOperation::Remove(Id(fields::get_u64(log, at)), first)
 }

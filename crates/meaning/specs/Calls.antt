@@ -5,13 +5,15 @@ use mathlib.Core.Bool.{Bool, true, cond}
 use mathlib.Core.List.{List, []}
 use lib.ListN.{length}
 use lib.Dec.{ltb, eqb}
+use Rattle.config.specs.Settings.{validate}
 use Rattle.config.specs.declared.Config.{Config}
 use Rattle.rows.specs.Lent.{rowsLent}
-use Rattle.refusal.specs.Refusal.{Result, answer, refused}
+use Rattle.refusal.specs.Refusal.{Result, answer, refused, told}
 use Rattle.layout.specs.declared.Extent.{Extent}
 use Rattle.layout.specs.declared.Shape.{Shape}
 use Rattle.fields.specs.Placed.{placed}
 use Rattle.meaning.specs.Snapshot.{Snapshot, readSnapshot}
+use Rattle.meaning.specs.Log.{ReadFrame, wrong, frameAt}
 use Rattle.meaning.specs.Recovery.{Recovery, recovered, refusedSnapshot, refusedLog, Recovered, recover, rowsOf, recordCount, activeCount, totalSize, tailLength}
 use Rattle.meaning.specs.Tables.{Tables, tablesFor}
 use Rattle.meaning.specs.Writer.{write}
@@ -60,6 +62,10 @@ abbrev pub recoverTables : List ℕ → List ℕ → Recovery → Tables
 recoverTables words entries (recovered r) = tablesFor words entries (rowsOf r)
 recoverTables words entries (refusedSnapshot why) = tablesFor words entries []
 recoverTables words entries (refusedLog why at) = tablesFor words entries []
+
+-- ---- one frame of a log: 6, 7, 8, then what stands at the byte; a byte past the log's end has too little
+abbrev pub frameCall : Config → List ℕ → ℕ → ℕ → ReadFrame
+frameCall c log previous at = told (λ _. frameAt c log previous at) wrong (validate c)
 
 -- ---- writers: a lent output
 -- the bytes at its front and the rest untouched, or no byte changed

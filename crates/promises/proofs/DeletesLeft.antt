@@ -23,6 +23,7 @@ use Rattle.meaning.specs.Records.{rowKind}
 use Rattle.meaning.specs.Recovery.{Recovered, recovered, recover, rowsOf, recordCount}
 use Rattle.meaning.specs.Log.{framesOf}
 use Rattle.meaning.specs.Encoder.{deleteFrame}
+use Rattle.meaning.specs.Tables.{rowsIn}
 use Rattle.meaning.specs.Views.{Lookup, findFrom, lookup}
 use Rattle.meaning.specs.Calls.{recoverTables, deleteRefused}
 use Rattle.views.specs.declared.Found.{Found}
@@ -117,7 +118,7 @@ IsNode Founds.None = ⊥
 IsNode (Founds.Refused why) = ⊥
 
 -- of an ID that is not live, lookup finds no node
-not-live : (d id k : ℕ) (rows : List Row) → active (rowKind d) id rows ≡ false → findFrom id k rows ≡ Lookup.none
+pub not-live : (d id k : ℕ) (rows : List Row) → active (rowKind d) id rows ≡ false → findFrom id k rows ≡ Lookup.none
 unfolding active findFrom
 not-live d id k [] e = refl
 not-live d id k (r ∷ rows) e = go (liveAs (rowKind 0) id r) e (not-live d id (suc k) rows)
@@ -127,24 +128,26 @@ not-live d id k (r ∷ rows) e = go (liveAs (rowKind 0) id r) e (not-live d id (
     go true e rest = absurd (true≢false e)
     go false e rest = rest e
 
+-- an ID that lookup finds is live among the rows in the words
+pub lookup-live : (d : ℕ) (words : List ℕ) (count : ℕ) (id : Id) (node : Node) → LookupMeets words count id (Founds.Node node)
+    → active (rowKind d) (id .0) (rowsIn count words) ≡ true
+unfolding lookup
+lookup-live d words count id node m = go (ltb (rowsLentPlain words) count) (active (rowKind d) (id .0) (rowsIn count words)) refl (m .result-is)
+  where
+    go : (large live : Bool) → active (rowKind d) (id .0) (rowsIn count words) ≡ live
+        → Founds.Node node ≡ foundTold (refuse NoSuchNode large >>= λ _. answer (findFrom (id .0) 0 (rowsIn count words)))
+        → active (rowKind d) (id .0) (rowsIn count words) ≡ true
+    go true live e h = absurd (subst IsNode h tt)
+    go false true e h = e
+    go false false e h = absurd (subst IsNode (h ∙ ap found (not-live d (id .0) 0 (rowsIn count words) e)) tt)
+
 found-is-live : (words active' snapshot log : List ℕ) (r : Recovered) → Bytes snapshot → Bytes log → recover (rowsLent words active') snapshot log ≡ recovered r
     → (id : Id) (node : Node) → LookupMeets (recoverTables words active' (recovered r) .rows) (recordCount r) id (Founds.Node node)
     → active (rowKind (r .config .dimensions)) (id .0) (rowsOf r) ≡ true
-unfolding lookup
 found-is-live words active' snapshot log r bs bl given id node m =
-    let packs = recovered-packs (rowsLent words active') snapshot log r bs bl given in
-    let table = recoverTables words active' (recovered r) .rows in
-    go (ltb (rowsLentPlain table) (recordCount r)) (active (rowKind (r .config .dimensions)) (id .0) (rowsOf r)) refl
-    (m .result-is
-    ∙ ap (λ (rows : List Row). foundTold (refuse NoSuchNode (ltb (rowsLentPlain table) (recordCount r)) >>= λ _. answer (findFrom (id .0) 0 rows)))
-    (rows-of-table (length words) (rowsOf r) packs))
-  where
-    go : (large live : Bool) → active (rowKind (r .config .dimensions)) (id .0) (rowsOf r) ≡ live
-        → Founds.Node node ≡ foundTold (refuse NoSuchNode large >>= λ _. answer (findFrom (id .0) 0 (rowsOf r)))
-        → active (rowKind (r .config .dimensions)) (id .0) (rowsOf r) ≡ true
-    go true live e h = absurd (subst IsNode h tt)
-    go false true e h = e
-    go false false e h = absurd (subst IsNode (h ∙ ap found (not-live (r .config .dimensions) (id .0) 0 (rowsOf r) e)) tt)
+    subst (λ (rows : List Row). active (rowKind (r .config .dimensions)) (id .0) rows ≡ true)
+    (rows-of-table (length words) (rowsOf r) (recovered-packs (rowsLent words active') snapshot log r bs bl given))
+    (lookup-live (r .config .dimensions) (recoverTables words active' (recovered r) .rows) (recordCount r) id node m)
 
 pub delete-frame : DeleteFrame
 delete-frame = record { twenty-nine-or-nothing = twenty-nine-or-nothing; delete-left = delete-left; found-is-live = found-is-live }

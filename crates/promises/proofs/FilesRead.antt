@@ -45,9 +45,9 @@ use Rattle.promises.proofs.FilesWritten.{file-at-the-cut}
 
 -- ---- read, then written
 -- a snapshot that is accepted, and what is told of it
-record Accepts (given : Result Snapshot) (info : SnapshotInfo) : Type 0 where
-  snapshot : Snapshot
-  is : given ≡ answer snapshot
+pub record Accepts (given : Result Snapshot) (info : SnapshotInfo) : Type 0 where
+  pub snapshot : Snapshot
+  pub is : given ≡ answer snapshot
   settings : info .config ≡ snapshot .config
   sequence : info .sequence ≡ snapshot .sequence
   records : info .records ≡ length (snapshot .rows)
@@ -60,7 +60,7 @@ abbrev IsAccepted : ReadSnapshot → Type 0
 IsAccepted (Snapshots.Accepted info) = Unit
 IsAccepted (Snapshots.Refused why) = ⊥
 
-accepts : (given : Result Snapshot) (info : SnapshotInfo) → Snapshots.Accepted info ≡ readTold given → Accepts given info
+pub accepts : (given : Result Snapshot) (info : SnapshotInfo) → Snapshots.Accepted info ≡ readTold given → Accepts given info
 accepts (answer S) info e =
     let same = ap (infoOr info) e in
     record { snapshot = S; is = refl; settings = ap (λ i. i .config) same; sequence = ap (λ i. i .sequence) same; records = ap (λ i. i .records) same }

@@ -26,7 +26,7 @@ use Rattle.meaning.specs.Calls.{recoverTables}
 use Rattle.theorems.specs.Cut.{fullSnapshot, Cut, place, there}
 use Rattle.theorems.proofs.Written.{writer-takes, writer-writes}
 use Rattle.theorems.proofs.WriterInWords.{length-full, is-new, written-beside-the-whole-log, written-without-the-front}
-use Rattle.promises.specs.WrittenFile.{WritesState, WritesStateCompacted, FileAtTheCut, Only34Or32, WrittenFile}
+use Rattle.promises.specs.WrittenFile.{WritesState, WritesStateCompacted, FileAtTheCut, Only34Or32, answerFor, WrittenFile}
 use Rattle.promises.proofs.Outputs.{written-holds}
 
 pub file-at-the-cut : (words active snapshot log : List ℕ) (cut : Cut (rowsLent words active) snapshot log) → Bytes snapshot → Bytes log
@@ -83,10 +83,7 @@ module _ (words active snapshot log more : List ℕ) (s : Recovered) (bs : Bytes
   pub write-compacted-refuses-only : WritesStateCompacted words active s snapshot (log ++ more) out r after → Only34Or32 r
   write-compacted-refuses-only m = taken Compacted (m .result-is)
 
-  pub write-answers : WritesState words active s snapshot (log ++ more) out r after
-      → r
-      ≡ cond (ltb maxSnapshotBytes (snapshotLength (totalSize s))) (Writes.Refused TooLarge)
-      (cond (ltb (length out) (snapshotLength (totalSize s))) (Writes.Refused OutputTooShort) (Writes.Bytes (snapshotLength (totalSize s))))
+  pub write-answers : WritesState words active s snapshot (log ++ more) out r after → r ≡ answerFor (totalSize s) out
   write-answers m =
       m .result-is
       ∙ ap writtenTold (writer-writes words active snapshot log more s bs bl given (length out))

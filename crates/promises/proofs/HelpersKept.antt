@@ -108,8 +108,8 @@ frames-helpers =
       seal-one-answer = λ out count r s m n. one-answer (m .output-is) (n .output-is);
       read-envelope-contract = λ κs log at r p. record { result-is = p };
       read-envelope-one-answer = λ log at r s m n. one-answer (m .result-is) (n .result-is);
-      payload-crc-holds-contract = λ κs log at count r p. record { result-is = p };
-      payload-crc-holds-one-answer = λ log at count r s m n. one-answer (m .result-is) (n .result-is);
+      payload-crc-holds-contract = λ κs tables log at count r p. record { result-is = p };
+      payload-crc-holds-one-answer = λ tables log at count r s m n. one-answer (m .result-is) (n .result-is);
     }
 
 pub log-helpers : LogHelpers
@@ -117,8 +117,10 @@ log-helpers =
     record {
       read-operation-contract = λ κs config log end tag at r p. record { result-is = p };
       read-operation-one-answer = λ config log end tag at r s m n. one-answer (m .result-is) (n .result-is);
-      read-frame-contract = λ κs config log previous at r p. record { result-is = p };
-      read-frame-one-answer = λ config log previous at r s m n. one-answer (m .result-is) (n .result-is);
+      stored-operation-contract = λ κs config log end tag at r p. record { result-is = p };
+      stored-operation-one-answer = λ config log end tag at r s m n. one-answer (m .result-is) (n .result-is);
+      read-frame-contract = λ κs tables config log previous at r p. record { result-is = p };
+      read-frame-one-answer = λ tables config log previous at r s m n. one-answer (m .result-is) (n .result-is);
     }
 
 pub links-helpers : LinksHelpers

@@ -9,5 +9,14 @@ pub mod FilesWritten
 pub mod FilesRead
 pub mod DeletesLeft
 pub mod FramesEncoded
+pub mod RecoverShown
+pub mod ListingKept
+pub mod DoorKept
+pub mod RefusedShown
+pub mod Rewritten
+pub mod TakenOnceShown
+pub mod CaptionsShown
+pub mod StillsGone
+pub mod WrongShutOut
 pub mod SumsKept
 pub mod Proved

@@ -6,9 +6,10 @@ use lib.ListN.{length, take, drop}
 use lib.Seq.{take-at, drop-at}
 use Rattle.fields.specs.Placed.{placed}
 use Rattle.fields.proofs.PlacedLaws.{placed-front}
+use Rattle.refusal.specs.declared.Refusal.{Refusal}
 use Rattle.refusal.specs.declared.Written.the-variants as Writes
 use Rattle.refusal.specs.Refusal.{Result, answer, writtenTold}
-use Rattle.refusal.proofs.Results.{written-is}
+use Rattle.refusal.proofs.Results.{written-is, written-not}
 use Rattle.meaning.specs.Calls.{outputAfter}
 use Rattle.promises.specs.Output.{Holds, Output}
 
@@ -33,6 +34,10 @@ written-holds given n out after e f =
       as-many = ap length front ∙ w .size-is;
       rest-untouched = rest-after (w .value) out after n (w .size-is) g;
     }
+
+-- a refused call changes no byte
+pub untouched : (given : Result (List ℕ)) (why : Refusal) (out after : List ℕ) → Writes.Refused why ≡ writtenTold given → after ≡ outputAfter out given → after ≡ out
+untouched given why out after e f = f ∙ ap (outputAfter out) (written-not given why (sym e))
 
 pub output : Output
 output = record { written-holds = written-holds }

@@ -1,5 +1,5 @@
 -- What `specs/Store.antt` says of the store's calls.
-use Rattle.promises.specs.Store.{SnapshotCalls, ViewsCalls, WriterCalls, EncoderCalls}
+use Rattle.promises.specs.Store.{SnapshotCalls, ViewsCalls, WriterCalls, EncoderCalls, LogCalls}
 use Rattle.promises.proofs.OneAnswers.{one-answer}
 
 pub snapshot-calls : SnapshotCalls
@@ -42,4 +42,11 @@ encoder-calls =
       encode-frame-one-answer = λ config sequence operations coordinates captions out r s x y m n. (one-answer (m .result-is) (n .result-is), one-answer (m .output-is) (n .output-is));
       encode-batch-contract = λ κs config sequence operations coordinates captions out r after p. record { result-is = p .0; output-is = p .1 };
       encode-batch-one-answer = λ config sequence operations coordinates captions out r s x y m n. (one-answer (m .result-is) (n .result-is), one-answer (m .output-is) (n .output-is));
+    }
+
+pub log-calls : LogCalls
+log-calls =
+    record {
+      frame-at-contract = λ κs config log previous at r p. record { result-is = p };
+      frame-at-one-answer = λ config log previous at r s m n. one-answer (m .result-is) (n .result-is);
     }

@@ -2,7 +2,7 @@
 use mathlib.Core.Path.{ap}
 use Rattle.refusal.specs.Refusal.{numberTold}
 use Rattle.theorems.proofs.SumsComputed.{sums}
-use Rattle.graph_theorems.specs.Edges as Cache
+use Rattle.graph_theorems.proofs.EdgesComputed as Cache
 use Rattle.promises.specs.SumsAtTheEdges.{SumsAtTheEdges}
 
 pub sums-at-the-edges : SumsAtTheEdges

@@ -68,6 +68,7 @@ use Rattle.frames.proofs.seal.Reads as SealCall
 use Rattle.frames.proofs.read_envelope.Reads as ReadEnvelopeCall
 use Rattle.frames.proofs.payload_crc_holds.Reads as PayloadCrcHoldsCall
 use Rattle.log.proofs.read_operation.Reads as ReadOperationCall
+use Rattle.log.proofs.stored_operation.Reads as StoredOperationCall
 use Rattle.log.proofs.read_frame.Reads as ReadFrameCall
 use Rattle.links.proofs.plain.Reads as PlainCall
 use Rattle.links.proofs.deleted_word.Reads as DeletedWordCall
@@ -298,8 +299,8 @@ pub record SealMeets (out : List ℕ) (count : ℕ) (after : List ℕ) : Type 0 
 pub record ReadEnvelopeMeets (log : List ℕ) (at : ℕ) (r : Envelope) : Type 0 where
   pub result-is : r ≡ envelopeAt log at
 
--- payload_crc_holds(log, at, count)
-pub record PayloadCrcHoldsMeets (log : List ℕ) (at count : ℕ) (r : Bool) : Type 0 where
+-- payload_crc_holds(tables, log, at, count)
+pub record PayloadCrcHoldsMeets (tables log : List ℕ) (at count : ℕ) (r : Bool) : Type 0 where
   pub result-is : r ≡ payloadCrcHolds log at count
 
 pub record FramesHelpers : Type 0 where
@@ -316,17 +317,22 @@ pub record FramesHelpers : Type 0 where
   pub read-envelope-contract : (κs : _) (log : RefT (List ℕ)) (at : ℕ) (r : Envelope) → ReadEnvelopeCall.Learnt κs (log, (at, tt)) r (log, (at, tt))
       → ReadEnvelopeMeets (now log) at r
   pub read-envelope-one-answer : (log : List ℕ) (at : ℕ) → One (ReadEnvelopeMeets log at)
-  pub payload-crc-holds-contract : (κs : _) (log : RefT (List ℕ)) (at count : ℕ) (r : Bool)
-      → PayloadCrcHoldsCall.Learnt κs (log, (at, (count, tt))) r (log, (at, (count, tt))) → PayloadCrcHoldsMeets (now log) at count r
-  pub payload-crc-holds-one-answer : (log : List ℕ) (at count : ℕ) → One (PayloadCrcHoldsMeets log at count)
+  pub payload-crc-holds-contract : (κs : _) (tables log : RefT (List ℕ)) (at count : ℕ) (r : Bool)
+      → PayloadCrcHoldsCall.Learnt κs (tables, (log, (at, (count, tt)))) r (tables, (log, (at, (count, tt))))
+      → PayloadCrcHoldsMeets (now tables) (now log) at count r
+  pub payload-crc-holds-one-answer : (tables log : List ℕ) (at count : ℕ) → One (PayloadCrcHoldsMeets tables log at count)
 
 -- ---- log
 -- read_operation(config, log, end, tag, at)
 pub record ReadOperationMeets (config : Config) (log : List ℕ) (end tag at : ℕ) (r : ReadOperation) : Type 0 where
   pub result-is : r ≡ operationTold (Meant.operationAt config log end tag at)
 
--- read_frame(config, log, previous, at)
-pub record ReadFrameMeets (config : Config) (log : List ℕ) (previous at : ℕ) (r : ReadFrame) : Type 0 where
+-- stored_operation(config, log, end, tag, at)
+pub record StoredOperationMeets (config : Config) (log : List ℕ) (end tag at : ℕ) (r : ReadOperation) : Type 0 where
+  pub result-is : r ≡ operationTold (Meant.operationAt config log end tag at)
+
+-- read_frame(tables, config, log, previous, at)
+pub record ReadFrameMeets (tables : List ℕ) (config : Config) (log : List ℕ) (previous at : ℕ) (r : ReadFrame) : Type 0 where
   pub result-is : r ≡ frameTold (Meant.frameAt config log previous at)
 
 pub record LogHelpers : Type 0 where
@@ -334,10 +340,14 @@ pub record LogHelpers : Type 0 where
       → ReadOperationCall.Learnt κs (config, (log, (end, (tag, (at, tt))))) r (config, (log, (end, (tag, (at, tt)))))
       → ReadOperationMeets config (now log) end tag at r
   pub read-operation-one-answer : (config : Config) (log : List ℕ) (end tag at : ℕ) → One (ReadOperationMeets config log end tag at)
-  pub read-frame-contract : (κs : _) (config : Config) (log : RefT (List ℕ)) (previous at : ℕ) (r : ReadFrame)
-      → ReadFrameCall.Learnt κs (config, (log, (previous, (at, tt)))) r (config, (log, (previous, (at, tt))))
-      → ReadFrameMeets config (now log) previous at r
-  pub read-frame-one-answer : (config : Config) (log : List ℕ) (previous at : ℕ) → One (ReadFrameMeets config log previous at)
+  pub stored-operation-contract : (κs : _) (config : Config) (log : RefT (List ℕ)) (end tag at : ℕ) (r : ReadOperation)
+      → StoredOperationCall.Learnt κs (config, (log, (end, (tag, (at, tt))))) r (config, (log, (end, (tag, (at, tt)))))
+      → StoredOperationMeets config (now log) end tag at r
+  pub stored-operation-one-answer : (config : Config) (log : List ℕ) (end tag at : ℕ) → One (StoredOperationMeets config log end tag at)
+  pub read-frame-contract : (κs : _) (tables : RefT (List ℕ)) (config : Config) (log : RefT (List ℕ)) (previous at : ℕ) (r : ReadFrame)
+      → ReadFrameCall.Learnt κs (tables, (config, (log, (previous, (at, tt))))) r (tables, (config, (log, (previous, (at, tt)))))
+      → ReadFrameMeets (now tables) config (now log) previous at r
+  pub read-frame-one-answer : (tables : List ℕ) (config : Config) (log : List ℕ) (previous at : ℕ) → One (ReadFrameMeets tables config log previous at)
 
 -- ---- links
 -- plain(word)

@@ -9,5 +9,14 @@ pub mod WrittenFile
 pub mod ReadAndWritten
 pub mod DeleteFrame
 pub mod EncodedFrame
+pub mod Recover
+pub mod Listing
+pub mod Door
+pub mod Refused
+pub mod RecoverWriteRecover
+pub mod RecoveredOnce
+pub mod CaptionsOfDeleted
+pub mod StillGone
+pub mod WrongRecoveries
 pub mod SumsAtTheEdges
 pub mod Promises

@@ -1,4 +1,4 @@
--- The store's calls: reading a snapshot, lookup and views, the two writers, the two encoders.
+-- The store's calls: reading a snapshot, lookup and views, the two writers, the two encoders, a frame of a log.
 -- Of each call: `…Meets` is what its contract says of a result and of what was lent, in the
 -- contract's own words; `…-contract`: what a caller learns from the contract in the source is this; `…-one-answer`: nothing is left to
 -- choose. A view is a slice: its bytes, and the place of the first (`ptr`).
@@ -17,12 +17,14 @@ use Rattle.sources.specs.declared.Shown.the-variants.{Caption, Vector}
 use Rattle.sources.specs.Sources.{bytesOf, startOf}
 use Rattle.meaning.specs.Snapshot.{readHeader}
 use Rattle.meaning.specs.Views.{lookup, view, given}
-use Rattle.meaning.specs.Calls.{readCall, readTables, writeCall, encodeCall, outputAfter}
+use Rattle.meaning.specs.Calls.{readCall, readTables, writeCall, encodeCall, frameCall, outputAfter}
 use Rattle.snapshot.specs.declared.ReadHeader.{ReadHeader}
 use Rattle.snapshot.specs.declared.ReadSnapshot.{ReadSnapshot}
 use Rattle.snapshot.specs.Told.{headerTold, readTold}
 use Rattle.views.specs.declared.Found.{Found}
 use Rattle.views.specs.Told.{foundTold}
+use Rattle.log.specs.declared.ReadFrame.{ReadFrame}
+use Rattle.log.specs.Told.{frameTold}
 use Rattle.snapshot.proofs.read_header.Reads as ReadHeaderCall
 use Rattle.snapshot.proofs.read_snapshot.Reads as ReadSnapshotCall
 use Rattle.views.proofs.lookup.Reads as LookupCall
@@ -32,6 +34,7 @@ use Rattle.writer.proofs.write_snapshot.Reads as WriteCall
 use Rattle.writer.proofs.write_compacted_snapshot.Reads as WriteCompactedCall
 use Rattle.encoder.proofs.encode_frame.Reads as EncodeFrameCall
 use Rattle.encoder.proofs.encode_batch.Reads as EncodeBatchCall
+use Rattle.log.proofs.frame_at.Reads as FrameAtCall
 use Rattle.views.proofs.caption_view.Reads as CaptionViewCall
 use Rattle.views.proofs.vector_view.Reads as VectorViewCall
 use Rattle.promises.specs.OneAnswer.{One, OneEach, OneOfThree, OneView}
@@ -149,3 +152,13 @@ pub record EncoderCalls : Type 0 where
       → EncodeBatchMeets config sequence (now operations) (now coordinates) (now captions) (now out) r (now after)
   pub encode-batch-one-answer : (config : Config) (sequence : ℕ) (operations coordinates captions out : List ℕ)
       → OneEach (EncodeBatchMeets config sequence operations coordinates captions out)
+
+-- ---- log
+-- frame_at(config, log, previous, at)
+pub record FrameAtMeets (config : Config) (log : List ℕ) (previous at : ℕ) (r : ReadFrame) : Type 0 where
+  pub result-is : r ≡ frameTold (frameCall config log previous at)
+
+pub record LogCalls : Type 0 where
+  pub frame-at-contract : (κs : _) (config : Config) (log : RefT (List ℕ)) (previous at : ℕ) (r : ReadFrame)
+      → FrameAtCall.Learnt κs (config, (log, (previous, (at, tt)))) r (config, (log, (previous, (at, tt)))) → FrameAtMeets config (now log) previous at r
+  pub frame-at-one-answer : (config : Config) (log : List ℕ) (previous at : ℕ) → One (FrameAtMeets config log previous at)

@@ -49,6 +49,13 @@ abbrev pub Only34Or32 : Written → Type 0
 Only34Or32 (Writes.Bytes n) = Unit
 Only34Or32 (Writes.Refused why) = (why ≡ TooLarge) ⊎ (why ≡ OutputTooShort)
 
+-- the answer of `write_snapshot` for records of this encoded size: 34 exactly if 56 bytes more exceed the limit, else 32 exactly if they
+-- exceed the output, and else that many bytes
+abbrev pub answerFor : ℕ → List ℕ → Written
+answerFor size out =
+    cond (ltb maxSnapshotBytes (snapshotLength size)) (Writes.Refused TooLarge)
+    (cond (ltb (length out) (snapshotLength size)) (Writes.Refused OutputTooShort) (Writes.Bytes (snapshotLength size)))
+
 pub record WrittenFile : Type 0 where
   -- Demand 3: the state is that at a cut, and `write_snapshot`, lent the log's front up to the cut with anything behind it, answers n
   -- bytes. Nothing behind it is the front that was recovered; `drop (place cut) log` behind it is the whole log
@@ -65,11 +72,7 @@ pub record WrittenFile : Type 0 where
   pub write-compacted-refuses-only : (words active snapshot log more : List ℕ) (s : Recovered) → Bytes snapshot → Bytes log
       → recover (rowsLent words active) snapshot log ≡ recovered s → (out : List ℕ) (r : Written) (after : List ℕ)
       → WritesStateCompacted words active s snapshot (log ++ more) out r after → Only34Or32 r
-  -- `write_snapshot` answers 34 exactly if a snapshot of the size that recovery told exceeds the limit, else 32 exactly if it exceeds the
-  -- output, and else that many bytes
+  -- `write_snapshot` answers by the size that recovery told
   pub write-answers : (words active snapshot log more : List ℕ) (s : Recovered) → Bytes snapshot → Bytes log
       → recover (rowsLent words active) snapshot log ≡ recovered s → (out : List ℕ) (r : Written) (after : List ℕ)
-      → WritesState words active s snapshot (log ++ more) out r after
-      → r
-      ≡ cond (ltb maxSnapshotBytes (snapshotLength (totalSize s))) (Writes.Refused TooLarge)
-      (cond (ltb (length out) (snapshotLength (totalSize s))) (Writes.Refused OutputTooShort) (Writes.Bytes (snapshotLength (totalSize s))))
+      → WritesState words active s snapshot (log ++ more) out r after → r ≡ answerFor (totalSize s) out

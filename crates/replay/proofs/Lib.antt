@@ -1,1 +1,4 @@
 pub mod TableLaws
+pub mod OperationFacts
+pub mod BatchLaws
+pub mod FrameFacts

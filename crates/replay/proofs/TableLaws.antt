@@ -170,5 +170,5 @@ module _ (d lent : ℕ) (r : Row) (words entries : List ℕ) (t : Table) (o : Ou
             packs = every-behind Packs old r (k .stands .packs) p;
             spares = every-behind Spares old r (k .stands .spares) s;
             sized = omega arith;
-            small = fits;
+            small = omega arith;
           }

@@ -7,8 +7,10 @@ use lib.Dec.{ltb}
 use lib.ListN.{length}
 use Rattle.refusal.specs.Refusal.{Result, answer, refused}
 use Rattle.config.specs.Limits.{maxSnapshotBytes}
-use Rattle.layout.specs.Layout.{snapshotLength}
+use Rattle.rows.specs.Rows.{RowFits}
 use Rattle.rows.specs.declared.Row.{Row}
+use Rattle.log.specs.declared.ReadOperation.{ReadOperation}
+use Rattle.log.specs.declared.ReadOperation.the-variants as Operations
 use Rattle.meaning.specs.Every.{Every}
 use Rattle.meaning.specs.Replay.{active, mark, size}
 use Rattle.meaning.specs.Records.{rowKind}
@@ -31,7 +33,7 @@ pub record Stands (d : ℕ) (words entries : List ℕ) (t : Table) (rows : List 
   pub packs : Every Packs rows
   pub spares : Every Spares rows
   pub sized : t .size ≡ size (rowKind d) rows
-  pub small : snapshotLength (t .size) ≤ maxSnapshotBytes
+  pub small : t .size ≤ maxSnapshotBytes
 
 -- some rows stand there
 pub record Kept (d : ℕ) (words entries : List ℕ) (t : Table) : Type 0 where
@@ -44,6 +46,18 @@ pub record TakenOut (d id : ℕ) (words entries : List ℕ) (t : Table) (o : Out
   pub told : active (rowKind d) id rows ≡ ltb 0 (o .link)
   pub cell-is : o .cell ≡ cellOf (t .tree) words entries id
   pub absent : Absent (plainRows words) (t .tree .count) id
+
+-- an operation that may be applied: a put whose row leaves the spare bits free, or a delete
+abbrev pub Accepted : ReadOperation → Type 0
+Accepted (Operations.Put r next) = RowFits r × Spares r
+Accepted (Operations.Remove id next) = Unit
+Accepted (Operations.Refused why) = ⊥
+
+-- where the one after it begins
+abbrev pub nextIn : ReadOperation → ℕ
+nextIn (Operations.Put r next) = next
+nextIn (Operations.Remove id next) = next
+nextIn (Operations.Refused why) = 0
 
 -- what an operation leaves: the rows that replay defines, or its refusal
 abbrev pub Follows : ℕ → Result (List Row) → Applied → List ℕ → List ℕ → Type 0

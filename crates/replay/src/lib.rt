@@ -2,17 +2,27 @@
 // The definitions are those of `meaning` (Replay); specs/Stands.antt says how rows stand in memory while replay runs.
 ghost use mathlib.Core.Path.{_≡_};
 ghost use mathlib.Core.List.{List};
-ghost use Prim.Native.Nat.{_*_, _≤_, _<_};
+ghost use Prim.Native.Nat.{_+_, _*_, _≤_, _<_};
 ghost use lib.ListN.{length};
-ghost use Rattle.config.specs.Limits.{maxRecords, maxDimensions};
+ghost use Rattle.config.specs.Limits.{maxRecords, maxDimensions, maxLogBytes};
+ghost use Rattle.layout.specs.declared.Shape.the-variants.{Batch};
 ghost use Rattle.rows.specs.Rows.{RowFits};
-ghost use Rattle.meaning.specs.Replay.{applyPut, applyRemove};
+ghost use Rattle.rows.specs.declared.Row.{Row};
+ghost use Rattle.meaning.specs.Log.{operationsAt};
+ghost use Rattle.meaning.specs.Log as Meant;
+ghost use Rattle.meaning.specs.Replay.{applyPut, applyRemove, applyOne, applyAll};
+ghost use Rattle.meaning.specs.Replay as Replays;
+ghost use Rattle.refusal.specs.Refusal.{answer};
+ghost use Rattle.log.specs.Stored.{StoredAll, FrameThere, IsFrame};
+ghost use Rattle.log.specs.Told.{operationRead};
 ghost use Rattle.meaning.specs.Records.{rowKind};
 ghost use Rattle.meaning.specs.Recovery.{boundsFor};
 ghost use Rattle.tree_meaning.proofs.RowFacts.{Spares};
-ghost use Rattle.replay.specs.Stands.{Stands, Kept, TakenOut, Follows};
+ghost use Rattle.replay.specs.Stands.{Stands, Kept, TakenOut, Accepted, nextIn, Follows};
 use config::Config;
 use layout::Shape;
+use log::Frame;
+use log::ReadOperation;
 use refusal::Refusal;
 use rows::Id;
 use rows::Row;
@@ -110,5 +120,124 @@ fn remove_row(
     match shape {
         Shape::Single => Applied::Refused(Refusal::InactiveDelete),
         Shape::Batch => Applied::Went(Table { tree, size }),
+    }
+}
+
+// One operation that was accepted: the last arm does not come about.
+fn apply_operation(
+    d: usize,
+    lent: usize,
+    shape: Shape,
+    words: &mut [u64],
+    entries: &mut [u32],
+    table: Table,
+    operation: ReadOperation,
+) -> Applied
+    requires { ⌜ d ≤ maxDimensions ⌝ }
+    requires { ⌜ 2 * lent ≤ length (now words) ⌝ }
+    requires { ⌜ lent ≤ length (now entries) ⌝ }
+    requires { ⌜ Accepted operation ⌝ }
+    requires { ⌜ Kept d (now words) (now entries) table ⌝ }
+    ensures { λ r. ⌜ ((x : Meant.ReadOperation) (rows : List Row) → operation ≡ operationRead x → Stands d (now (words .entry)) (now (entries .entry)) table rows → Follows d (applyOne (rowKind d) (boundsFor lent) shape (x .operation) rows) r (now (words .exit)) (now (entries .exit))) ⌝ }
+{
+    match operation {
+        ReadOperation::Put(row, _) => put_row(d, lent, words, entries, table, row),
+        ReadOperation::Remove(id, _) => remove_row(d, shape, words, entries, table, id),
+        ReadOperation::Refused(why) => Applied::Refused(why),
+    }
+}
+
+// Where the next one begins, of an operation that was accepted.
+fn next_of(operation: ReadOperation) -> usize
+    ensures { λ r. ⌜ r ≡ nextIn operation ⌝ }
+{
+    match operation {
+        ReadOperation::Put(_, next) => next,
+        ReadOperation::Remove(_, next) => next,
+        ReadOperation::Refused(_) => 0,
+    }
+}
+
+// n operations from `at` on, each behind its tag, read again where they lie.
+fn apply_batch(
+    config: Config,
+    log: &[u8],
+    end: usize,
+    n: usize,
+    at: usize,
+    lent: usize,
+    words: &mut [u64],
+    entries: &mut [u32],
+    table: Table,
+) -> Applied
+    requires { ⌜ config .dimensions ≤ maxDimensions ⌝ }
+    requires { ⌜ length (now log) ≤ maxLogBytes ⌝ }
+    requires { ⌜ end ≤ length (now log) ⌝ }
+    requires { ⌜ StoredAll (operationsAt n config (now log) end at) ⌝ }
+    requires { ⌜ 2 * lent ≤ length (now words) ⌝ }
+    requires { ⌜ lent ≤ length (now entries) ⌝ }
+    requires { ⌜ Kept (config .dimensions) (now words) (now entries) table ⌝ }
+    ensures { λ r. ⌜ ((x : Meant.ReadOperations) (rows : List Row) → operationsAt n config (now (log .entry)) end at ≡ answer x → Stands (config .dimensions) (now (words .entry)) (now (entries .entry)) table rows → Follows (config .dimensions) (applyAll (rowKind (config .dimensions)) (boundsFor lent) Batch (x .operations) rows) r (now (words .exit)) (now (entries .exit))) ⌝ }
+{
+    let d = config.dimensions;
+    let mut kept = table;
+    let mut next = at;
+    let mut left = n;
+    while 0 < left {
+        let operation = log::stored_operation(config, log, end, log[next], next + 1);
+        match apply_operation(d, lent, Shape::Batch, words, entries, kept, operation) {
+            Applied::Went(table) => {
+                kept = table;
+            }
+            Applied::Refused(why) => {
+                return Applied::Refused(why);
+            }
+        }
+        next = next_of(operation);
+        left -= 1;
+    }
+    Applied::Went(kept)
+}
+
+// Internal: the frame was read there, in a log within its bound; the tables have room for the rows lent, and rows stand in them.
+// The operations of a frame, in order.
+pub fn apply_frame(
+    config: Config,
+    log: &[u8],
+    lent: usize,
+    frame: Frame,
+    words: &mut [u64],
+    entries: &mut [u32],
+    table: Table,
+) -> Applied
+    requires { ⌜ config .dimensions ≤ maxDimensions ⌝ }
+    requires { ⌜ length (now log) ≤ maxLogBytes ⌝ }
+    requires { ⌜ 2 * lent ≤ length (now words) ⌝ }
+    requires { ⌜ lent ≤ length (now entries) ⌝ }
+    requires { ⌜ FrameThere config (now log) frame ⌝ }
+    requires { ⌜ Kept (config .dimensions) (now words) (now entries) table ⌝ }
+    ensures { λ r. ⌜ ((f : Replays.Frame Row) (rows : List Row) → IsFrame config (now (log .entry)) frame f → Stands (config .dimensions) (now (words .entry)) (now (entries .entry)) table rows → Follows (config .dimensions) (applyAll (rowKind (config .dimensions)) (boundsFor lent) (f .shape) (f .operations) rows) r (now (words .exit)) (now (entries .exit))) ⌝ }
+{
+    let d = config.dimensions;
+    let start = frame.start;
+    let first = start + 17;
+    let end = frame.next - layout::CRC_LENGTH;
+    let shape = frame.shape;
+    match shape {
+        Shape::Single => {
+            let operation = log::stored_operation(config, log, end, log[start + 8], first);
+            apply_operation(d, lent, Shape::Single, words, entries, table, operation)
+        }
+        Shape::Batch => apply_batch(
+            config,
+            log,
+            end,
+            frame.operations,
+            first + 4,
+            lent,
+            words,
+            entries,
+            table,
+        ),
     }
 }

@@ -44,7 +44,7 @@ pub record Cleared (words entries : List ℕ) (r : Result Snapshot) (why : Refus
   pub rows-zero : replicate (length words) 0 ≡ readTables words entries r .rows
   pub active-zero : replicate (length entries) 0 ≡ readTables words entries r .active
 
-no-words : (n : ℕ) → replicate n 0 ≡ filled n []
+pub no-words : (n : ℕ) → replicate n 0 ≡ filled n []
 no-words n = let e : n ≡ n - 0 = omega arith in ap (λ (k : ℕ). replicate k 0) e
 
 pub cleared : (words entries : List ℕ) (r : Result Snapshot) (why : Refusal) → r ≡ refused why → Cleared words entries r why

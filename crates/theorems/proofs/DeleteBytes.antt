@@ -17,7 +17,7 @@ use Rattle.rows.proofs.RowLaws.{operation-of-parts}
 use Rattle.refusal.specs.Refusal.{answer}
 use Rattle.refusal.specs.declared.Refusal.the-variants.{WrongLength, WrongSequence, OutputTooShort}
 use Rattle.layout.specs.Layout.{frameLength}
-use Rattle.meaning.specs.Replay.{put, remove, Frame, tail}
+use Rattle.meaning.specs.Replay.{remove, Frame, tail}
 use Rattle.rows.specs.declared.Row.{Row}
 use Rattle.meaning.specs.Log.{framesOf}
 use Rattle.meaning.specs.Encoder.{askedFrom, putCount, encodeDelete, encodeAll, sealed, wordsChecked, encodeOperations, encodeValid, encode, deleteFrame}

@@ -11,6 +11,7 @@ pub mod HeaderFacts
 pub mod HeaderBack
 pub mod RecordBack
 pub mod FileBack
+pub mod FileBytes
 pub mod SnapshotFacts
 pub mod RowSourced
 pub mod SnapshotFit
@@ -34,6 +35,7 @@ pub mod RecoverAlike
 pub mod TablesAlike
 pub mod InWords
 pub mod TakenOnce
+pub mod RefusedThere
 pub mod OperationBack
 pub mod FrameBack
 pub mod Meant

@@ -13,9 +13,11 @@ use Rattle.meaning.specs.Encoder.{encode}
 use Rattle.theorems.proofs.InWords as InWords
 use Rattle.theorems.proofs.WriterInWords as WriterInWords
 use Rattle.theorems.proofs.TakenOnce as TakenOnce
+use Rattle.theorems.proofs.RefusedThere as RefusedThere
 use Rattle.theorems.proofs.Written as Written
 use Rattle.theorems.proofs.FileBack as FileBack
 use Rattle.theorems.proofs.AtTheCut as AtTheCut
+use Rattle.theorems.proofs.RawFile as RawFile
 use Rattle.theorems.proofs.EncodeBack as EncodeBack
 use Rattle.theorems.proofs.Appended as Appended
 use Rattle.theorems.proofs.DeleteBytes as DeleteBytes
@@ -61,6 +63,7 @@ theorems =
             rewritten-beside-the-tail = WriterInWords.rewritten-beside-the-tail;
           };
       each-frame-once = record { taken-once = TakenOnce.taken-once; taken-if = TakenOnce.taken-if };
+      refused-logs = record { refused-at = RefusedThere.refused-at; refused-if = RefusedThere.refused-if };
       writer-takes = record { writer-takes = Written.writer-takes; writer-writes = Written.writer-writes };
       file-read-back =
           record {
@@ -69,6 +72,7 @@ theorems =
             file-seen = FileBack.file-seen;
             recovered-storable = AtTheCut.recovered-storable;
           };
+      accepted-file = record { accepted-file = RawFile.accepted-file };
       frame-read-back = record { encode-back = frame-of; encode-bytes = EncodeBack.encode-bytes };
       delete-appended =
           record {

@@ -25,6 +25,7 @@ use Rattle.config.proofs.Laws.{number-of-read}
 use Rattle.meaning.specs.Every.{Every}
 use Rattle.theorems.proofs.RecordBack.{all-shaped, Readable, records-seen}
 use Rattle.theorems.specs.FileRows.{asRead}
+use Rattle.theorems.specs.AcceptedFile.{LaidOut}
 use Rattle.theorems.specs.AnyFile.{versionNumber, metricBytes, headerOf, Tells, HeaderFits, bodyWith, fileWith}
 use Rattle.theorems.proofs.HeaderFacts.{HeaderFacts, headerIn}
 use Rattle.theorems.proofs.FileBack.{records-here, snapshotOf, file-read}
@@ -239,3 +240,15 @@ raw-seen lent s x log e k =
     let is : x ≡ snapshotOf v c q rs = file-read lent v c q rs x (k .fits) shaped (ap (readSnapshot lent) (sym (k .is)) ∙ e) in
     ap₂ (λ (l : List ℕ) (rows : List Row). map (seen d l log) rows) (k .is) (ap (λ (y : Snapshot). y .rows) is)
     ∙ records-seen d (fileWith v c q rs) log (headerLength v) rs _ (records-here v c q rs) shaped
+
+pub accepted-file : (lent : ℕ) (s : List ℕ) (x : Snapshot) → Bytes s → readSnapshot lent s ≡ answer x → LaidOut s x
+accepted-file lent s x b e =
+    let k = raw-file lent s x b e in
+    record {
+      version = k .version;
+      records = k .records;
+      is = k .is;
+      fits = k .fits;
+      shaped = all-shaped (x .config) (k .records) (k .readable);
+      shows = λ log. raw-seen lent s x log e k;
+    }

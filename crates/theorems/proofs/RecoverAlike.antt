@@ -24,7 +24,7 @@ use Rattle.theorems.proofs.CutFrames as CutFrames
 use Rattle.theorems.proofs.Carry.{Carries, carryFrames, carryEnd, carryOutcome, size-carried, replay-carried}
 use Rattle.theorems.proofs.LogFit.{Logged, in-frames, frames-logged}
 use Rattle.theorems.proofs.Weighed.{Weighed, weighedKind, weighed, weighed-carries, frames-alike}
-use Rattle.theorems.specs.DeletedCaptions.{DifferInDeleted, placeless, withoutPlaces, withoutCrc}
+use Rattle.theorems.specs.DeletedCaptions.{DifferInDeleted, placeless, withoutPlaces, toldWithoutCrc}
 use Rattle.theorems.proofs.ReadAlike.{ReadAlike, deleted-captions}
 use Rattle.theorems.proofs.Recovering.{recover-read, recover-long}
 use Rattle.theorems.specs.Compared.{compared}
@@ -160,7 +160,7 @@ placeless-active rows =
 
 -- the values of a recovery, or others where it is none
 toldOr : RecoveryTold → List ℕ → Recovery → RecoveryTold
-toldOr z log (recovered r) = withoutCrc (recoveryTold log r)
+toldOr z log (recovered r) = toldWithoutCrc (recoveryTold log r)
 toldOr z log (refusedSnapshot why) = z
 toldOr z log (refusedLog why at) = z
 
@@ -169,7 +169,7 @@ activeOr z (recovered r) = activeNodes (rowsOf r)
 activeOr z (refusedSnapshot why) = z
 activeOr z (refusedLog why at) = z
 
-told-placeless : (z : RecoveryTold) (log : List ℕ) (r : Recovered) → toldOr z log (withoutPlaces (recovered r)) ≡ withoutCrc (recoveryTold log r)
+told-placeless : (z : RecoveryTold) (log : List ℕ) (r : Recovered) → toldOr z log (withoutPlaces (recovered r)) ≡ toldWithoutCrc (recoveryTold log r)
 unfolding toldOr
 told-placeless z log r =
     let rows = rowsOf r in
@@ -190,7 +190,7 @@ told-placeless z log r =
 -- every value of the answer but the snapshot CRC, and the active entries
 pub deleted-captions-told : (lent : ℕ) (s s' log : List ℕ) (x y : Snapshot) (r r' : Recovered) → DifferInDeleted s s'
     → readSnapshot lent s ≡ answer x → readSnapshot lent s' ≡ answer y → recover lent s log ≡ recovered r → recover lent s' log ≡ recovered r'
-    → (withoutCrc (recoveryTold log r) ≡ withoutCrc (recoveryTold log r')) × (activeNodes (rowsOf r) ≡ activeNodes (rowsOf r'))
+    → (toldWithoutCrc (recoveryTold log r) ≡ toldWithoutCrc (recoveryTold log r')) × (activeNodes (rowsOf r) ≡ activeNodes (rowsOf r'))
 unfolding activeOr
 deleted-captions-told lent s s' log x y r r' k e e' a a' =
     let same : withoutPlaces (recovered r) ≡ withoutPlaces (recovered r')

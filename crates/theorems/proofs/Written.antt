@@ -69,7 +69,8 @@ module _ (words active : List ℕ) (snapshot log more : List ℕ) (r : Recovered
   abbrev table : List ℕ
   table = recoverTables words active (recovered r) .rows
 
-  room-there : length (rowsOf r) ≤ rowsLentPlain table
+  -- the table that was lent has room for every row
+  pub room-there : length (rowsOf r) ≤ rowsLentPlain table
   room-there =
       let e = stands .enough in
       let w = length-rowWords (rowsOf r) in

@@ -58,8 +58,8 @@ withoutPlaces (recovered r) =
 withoutPlaces (refusedSnapshot why) = refusedSnapshot why
 withoutPlaces (refusedLog why at) = refusedLog why at
 
-abbrev pub withoutCrc : RecoveryTold → RecoveryTold
-withoutCrc t =
+abbrev pub toldWithoutCrc : RecoveryTold → RecoveryTold
+toldWithoutCrc t =
     record {
       config = t .config;
       crc = 0;
@@ -86,7 +86,7 @@ pub record DeletedCaptions : Type 0 where
   -- in the words of the answer: every value but the snapshot CRC, and the active entries
   pub captions-told : (lent : ℕ) (s s' log : List ℕ) (x y : Snapshot) (r r' : Recovered) → DifferInDeleted s s'
       → readSnapshot lent s ≡ answer x → readSnapshot lent s' ≡ answer y → recover lent s log ≡ recovered r → recover lent s' log ≡ recovered r'
-      → (withoutCrc (recoveryTold log r) ≡ withoutCrc (recoveryTold log r')) × (activeNodes (rowsOf r) ≡ activeNodes (rowsOf r'))
+      → (toldWithoutCrc (recoveryTold log r) ≡ toldWithoutCrc (recoveryTold log r')) × (activeNodes (rowsOf r) ≡ activeNodes (rowsOf r'))
   -- the same records
   pub captions-records : (lent : ℕ) (s s' log : List ℕ) (x y : Snapshot) → Bytes log → DifferInDeleted s s'
       → readSnapshot lent s ≡ answer x → readSnapshot lent s' ≡ answer y → compared s log (recover lent s log) ≡ compared s' log (recover lent s' log)

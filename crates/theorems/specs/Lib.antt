@@ -4,6 +4,7 @@ pub mod Compared
 pub mod Demand3
 pub mod Demand3Written
 pub mod EachFrameOnce
+pub mod RefusedAt
 pub mod WriterTakes
 pub mod Storable
 pub mod FileRows
@@ -13,6 +14,7 @@ pub mod FrameRows
 pub mod FrameReadBack
 pub mod DeleteAppended
 pub mod AnyFile
+pub mod AcceptedFile
 pub mod DeletedCaptions
 pub mod Sums
 pub mod Theorems

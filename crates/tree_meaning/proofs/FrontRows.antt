@@ -203,3 +203,24 @@ once-rows (r ∷ rs) rest all t (suc (suc u)) (suc v) p q h l m e =
     once-rows rs rest (all .1) (twice-parts (r .deleted) (active (rowKind 0) (r .id .0) rs) (liveTwice rs) t) (suc u) v j (omega arith) (omega arith)
     (behind-live (r .id .0) (wordOf r) (rowWords rs ++ rest) (suc u) j l) (behind-live (r .id .0) (wordOf r) (rowWords rs ++ rest) v k m)
     (sym (id-behind (r .id .0) (wordOf r) (rowWords rs ++ rest) (suc u) j) ∙ e ∙ id-behind (r .id .0) (wordOf r) (rowWords rs ++ rest) v k)
+
+-- and the other way round
+pub rows-once : (rows : List Row) (rest : List ℕ) → Every Packs rows → Once (rowWords rows ++ rest) (length rows) → liveTwice rows ≡ false
+unfolding liveTwice rowWords
+rows-once [] rest all once = refl
+rows-once (r ∷ rs) rest all once =
+    go (r .deleted) refl (rows-once rs rest (all .1) (once-behind (r .id .0) (wordOf r) (rowWords rs ++ rest) (length rs) once))
+  where
+    -- no row behind a live one has its ID and is live
+    alone : r .deleted ≡ false → Absent (rowWords rs ++ rest) (length rs) (r .id .0)
+    alone e u p h l k =
+        once 1 (suc u) (omega arith) (omega arith) (omega arith) (row-live r (all .0) e) (live-behind (r .id .0) (wordOf r) (rowWords rs ++ rest) u p l)
+        (sym (id-behind (r .id .0) (wordOf r) (rowWords rs ++ rest) u p ∙ k))
+
+    go : (a : Bool) → r .deleted ≡ a → liveTwice rs ≡ false
+        → cond (r .deleted) (liveTwice rs) (cond (active (rowKind 0) (r .id .0) rs) true (liveTwice rs)) ≡ false
+    go true e more = ap (λ (x : Bool). cond x (liveTwice rs) (cond (active (rowKind 0) (r .id .0) rs) true (liveTwice rs))) e ∙ more
+    go false e more =
+        ap (λ (x : Bool). cond x (liveTwice rs) (cond (active (rowKind 0) (r .id .0) rs) true (liveTwice rs))) e
+        ∙ ap (λ (x : Bool). cond x true (liveTwice rs)) (none-active 0 (r .id .0) rest rs (all .1) (alone e))
+        ∙ more

@@ -22,7 +22,7 @@ use Rattle.tree.specs.Grown.{Finds, found, none, Once, Added, Marked}
 use Rattle.links.proofs.PlainLaws.{plain-take, length-plain}
 use Rattle.tree_meaning.specs.Holds.{Holds}
 use Rattle.tree_meaning.proofs.RowFacts.{wordOf, Spares, plain-row, delete-packs}
-use Rattle.tree_meaning.proofs.FrontRows.{none-active, none-marked, found-marks, live-active, once-rows}
+use Rattle.tree_meaning.proofs.FrontRows.{none-active, none-marked, found-marks, live-active, once-rows, rows-once}
 
 pub length-mark : (d id : ℕ) (rows : List Row) → length (mark (rowKind d) id rows) ≡ length rows
 unfolding mark
@@ -39,10 +39,10 @@ mark-packs d id (r ∷ rs) all = (go (liveAs (rowKind d) id r), mark-packs d id 
     go false = all .0
 
 -- a table is its rows and the rest
-parted : (words : List ℕ) (rows : List Row) → Holds words rows → words ≡ rowWords rows ++ drop (2 * length rows) words
+pub parted : (words : List ℕ) (rows : List Row) → Holds words rows → words ≡ rowWords rows ++ drop (2 * length rows) words
 parted words rows h = sym (take-append-drop (2 * length rows) words) ∙ ap (λ (l : List ℕ). l ++ drop (2 * length rows) words) h
 
-holds-front : (rows : List Row) (rest : List ℕ) → Holds (rowWords rows ++ rest) rows
+pub holds-front : (rows : List Row) (rest : List ℕ) → Holds (rowWords rows ++ rest) rows
 holds-front rows rest = take-at (rowWords rows) rest (2 * length rows) (length-rowWords rows)
 
 -- a search that found the live row of an ID, or that there is none, said whether the ID is active
@@ -122,6 +122,10 @@ holds-plain words rows all h = sym (plain-take words (length rows)) ∙ ap plain
 -- a table whose rows have no ID live twice, as every snapshot that is read
 pub once-means : (words : List ℕ) (rows : List Row) → Every Packs rows → Holds words rows → liveTwice rows ≡ false → Once words (length rows)
 once-means words rows all h t = subst (λ (l : List ℕ). Once l (length rows)) (sym (parted words rows h)) (once-rows rows (drop (2 * length rows) words) all t)
+
+-- and the other way round
+pub means-once : (words : List ℕ) (rows : List Row) → Every Packs rows → Holds words rows → Once words (length rows) → liveTwice rows ≡ false
+means-once words rows all h once = rows-once rows (drop (2 * length rows) words) all (subst (λ (l : List ℕ). Once l (length rows)) (parted words rows h) once)
 
 -- ---- the same for what the code promises
 

@@ -21,6 +21,7 @@ pub const MAX_REQUEST: usize = 65_536;
 pub enum Kind {
     Mixed,
     Pairs,
+    Recoveries,
     Caches,
     Encoders,
     Tables,
@@ -32,6 +33,7 @@ impl Kind {
         Some(match name {
             "mixed" => Self::Mixed,
             "pairs" => Self::Pairs,
+            "recoveries" => Self::Recoveries,
             "caches" => Self::Caches,
             "encoders" => Self::Encoders,
             "tables" => Self::Tables,
@@ -56,6 +58,10 @@ pub fn request(seed: u64, index: u64, kind: Kind) -> Vec<u8> {
 fn one(prng: &mut Prng, kind: Kind) -> Vec<u8> {
     match kind {
         Kind::Pairs => pairs::recover_request(prng),
+        Kind::Recoveries => match prng.below(2) {
+            0 => pairs::recover_request(prng),
+            _ => pairs::recover_write_request(prng),
+        },
         Kind::Caches => caches::read_cache_request(prng),
         Kind::Encoders => encoders::encode_request(prng),
         Kind::Tables => match prng.below(4) {

@@ -5,7 +5,7 @@ use denote.Ref.{now}
 use borrow.Author.Tests.{lt-ltb, le-ltb}
 use Rattle.frames.specs.Envelope.{envelopeAt}
 use Rattle.refusal.specs.Refusal.{answer}
-use Rattle.refusal.proofs.Results.{measured-is, measured-not}
+use Rattle.refusal.proofs.Results.{sized-is, sized-not}
 use Rattle.meaning.specs.Log.{lengthAt}
 use Rattle.frames.proofs.Envelopes.{length-bounds}
 use borrow.Author.Needs.{needs}
@@ -15,27 +15,15 @@ use Rattle.frames.proofs.read_envelope.Tie as tie
 length-is : (c : tie.After-n) → lengthAt (now (c .before .before .before .before .before .args .log)) (c .before .before .before .before .before .args .at) ≡ answer (c .n .given .0 .0)
 length-is c =
     let a = c .before .before .before .before .before .args in
-    let s = measured-is (λ (n : ℕ). n) (lengthAt (now (a .log)) (a .at)) _ (sym (c .before .before .read-length .ensures) ∙ c .n .given .1) in
+    let s = sized-is (λ (n : ℕ). n) (lengthAt (now (a .log)) (a .at)) _ (sym (c .before .before .read-length .ensures) ∙ c .n .given .1) in
     s .is ∙ ap answer (s .size-is)
-
-sub-left : tie.Need-sub-left
-sub-left c = search needs
 
 returns : tie.Need-returns
 unfolding envelopeAt
 returns c = simp (lt-ltb _ _ (c .if1 .taken))
 
-read-length-requires : tie.Need-read-length-requires
-read-length-requires c κs = search needs
-
-enum-known-n : tie.Need-enum-known-n
-enum-known-n c = search needs
-
 within-requires : tie.Need-within-requires
 within-requires c κs = length-bounds _ _ _ (length-is (c .before)) .1
-
-enum-known-r : tie.Need-enum-known-r
-enum-known-r c = search needs
 
 returns-2 : tie.Need-returns-2
 unfolding envelopeAt
@@ -45,18 +33,18 @@ returns-3 : tie.Need-returns-3
 unfolding envelopeAt
 returns-3 c =
     let a = c .before .before .before .before .before .before .args in
-    let no = measured-not (λ (n : ℕ). n) (lengthAt (now (a .log)) (a .at)) _ (sym (c .before .before .before .read-length .ensures) ∙ c .before .r .given .1) in
+    let no = sized-not (λ (n : ℕ). n) (lengthAt (now (a .log)) (a .at)) _ (sym (c .before .before .before .read-length .ensures) ∙ c .before .r .given .1) in
     sym (simp (le-ltb _ _ (c .before .before .before .before .if1 .left), no))
 
 pub read-envelope-spec : {M : Type 1} → statement M
 read-envelope-spec =
     tie.close
     (tie.spec
-    sub-left
+    (λ c. search needs)
     returns
-    read-length-requires
-    enum-known-n
+    (λ c κs. search needs)
+    (λ c. search needs)
     within-requires
-    enum-known-r
+    (λ c. search needs)
     returns-2
     returns-3)

@@ -26,34 +26,10 @@ crc-read c =
 crc-holds : (c : tie.Else1) → eqb (crcOf (part (now (c .before .before .before .before .before .args .log)) (c .before .before .before .before .before .args .at) 4)) (num (now (c .before .before .before .before .before .args .log)) (c .before .before .before .before .before .args .at + 4) 4) ≡ true
 crc-holds c = eq-eqb _ _ (sym (crc-read (c .before .before)) ∙ c .if1 .left ∙ c .before .get-u32 .ensures)
 
-add-end : tie.Need-add-end
-add-end c = search needs
-
-sub-crc32 : tie.Need-sub-crc32
-sub-crc32 c = search needs
-
-part-crc32-start : tie.Need-part-crc32-start
-part-crc32-start c = search needs
-
-part-crc32-end : tie.Need-part-crc32-end
-part-crc32-end c = search needs
-
-crc32-requires : tie.Need-crc32-requires
-crc32-requires c κs = search needs
-
-get-u32-requires : tie.Need-get-u32-requires
-get-u32-requires c κs = search needs
-
 returns : tie.Need-returns
 returns c =
     let a = c .before .before .before .before .before .args in
     sym (ap measured (length-crc-wrong (now (a .log)) (a .at) (λ e. c .if1 .taken (crc-read (c .before .before) ∙ e ∙ sym (c .before .get-u32 .ensures)))))
-
-get-u32-requires-2 : tie.Need-get-u32-requires-2
-get-u32-requires-2 c κs = search needs
-
-cast-n : tie.Need-cast-n
-cast-n c = search needs
 
 returns-2 : tie.Need-returns-2
 unfolding lengthAt
@@ -73,15 +49,15 @@ pub read-length-spec : {M : Type 1} → statement M
 read-length-spec =
     tie.close
     (tie.spec
-    add-end
-    sub-crc32
-    part-crc32-start
-    part-crc32-end
-    crc32-requires
-    get-u32-requires
+    (λ c. search needs)
+    (λ c. search needs)
+    (λ c. search needs)
+    (λ c. search needs)
+    (λ c κs. search needs)
+    (λ c κs. search needs)
     returns
-    get-u32-requires-2
-    cast-n
+    (λ c κs. search needs)
+    (λ c. search needs)
     returns-2
     returns-3
     returns-4)

@@ -11,45 +11,9 @@ use borrow.Author.Needs.{needs}
 use Rattle.frames.proofs.seal.Statement.{statement}
 use Rattle.frames.proofs.seal.Tie as tie
 
-add-end : tie.Need-add-end
-add-end c = search needs
-
-sub-crc32 : tie.Need-sub-crc32
-sub-crc32 c = search needs
-
-part-crc32-start : tie.Need-part-crc32-start
-part-crc32-start c = search needs
-
-part-crc32-end : tie.Need-part-crc32-end
-part-crc32-end c = search needs
-
-crc32-requires : tie.Need-crc32-requires
-crc32-requires c κs = search needs
-
-cast-put-u32 : tie.Need-cast-put-u32
-cast-put-u32 c = search needs
-
-put-u32-requires : tie.Need-put-u32-requires
-put-u32-requires c κs = search needs
-
-slice-reshare-prefix-crc32 : tie.Need-slice-reshare-prefix-crc32
-slice-reshare-prefix-crc32 c = search needs
-
 slice-aggregate-crc32 : tie.Need-slice-aggregate-crc32
 slice-aggregate-crc32 c =
     let one = c .before .before .before .put-u32 in sym (length-take-le 4 (one .last .0) (omega (arith, one .kept .0)))
-
-crc32-requires-2 : tie.Need-crc32-requires-2
-crc32-requires-2 c κs = search needs
-
-put-u32-requires-2 : tie.Need-put-u32-requires-2
-put-u32-requires-2 c κs = search needs
-
-put-u32-requires-3 : tie.Need-put-u32-requires-3
-put-u32-requires-3 c κs = search needs
-
-same-length : tie.Need-same-length
-same-length c = search needs
 
 returns : tie.Need-returns
 returns c =
@@ -68,17 +32,17 @@ pub seal-spec : {M : Type 1} → statement M
 seal-spec =
     tie.close
     (tie.spec
-    add-end
-    sub-crc32
-    part-crc32-start
-    part-crc32-end
-    crc32-requires
-    cast-put-u32
-    put-u32-requires
-    slice-reshare-prefix-crc32
+    (λ c. search needs)
+    (λ c. search needs)
+    (λ c. search needs)
+    (λ c. search needs)
+    (λ c κs. search needs)
+    (λ c. search needs)
+    (λ c κs. search needs)
+    (λ c. search needs)
     slice-aggregate-crc32
-    crc32-requires-2
-    put-u32-requires-2
-    put-u32-requires-3
-    same-length
+    (λ c κs. search needs)
+    (λ c κs. search needs)
+    (λ c κs. search needs)
+    (λ c. search needs)
     returns)

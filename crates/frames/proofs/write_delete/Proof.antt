@@ -10,15 +10,6 @@ use borrow.Author.Needs.{needs}
 use Rattle.frames.proofs.write_delete.Statement.{statement}
 use Rattle.frames.proofs.write_delete.Tie as tie
 
-write-opcode-requires : tie.Need-write-opcode-requires
-write-opcode-requires c κs = search needs
-
-put-u64-requires : tie.Need-put-u64-requires
-put-u64-requires c κs = search needs
-
-same-length : tie.Need-same-length
-same-length c = search needs
-
 returns : tie.Need-returns
 returns c =
     let a = c .before .before .before .before .before .before .before .before .before .args in
@@ -28,4 +19,4 @@ returns c =
     then-placed 0 P (bytes 8 (a .id)) (now (a .out)) (one .last .0) (two .last .0) 9 (omega arith) (one .ensures) (omega (arith, length-bytes 8 (a .sequence))) (two .ensures)
 
 pub write-delete-spec : {M : Type 1} → statement M
-write-delete-spec = tie.close (tie.spec write-opcode-requires put-u64-requires same-length returns)
+write-delete-spec = tie.close (tie.spec (λ c κs. search needs) (λ c κs. search needs) (λ c. search needs) returns)

@@ -13,15 +13,6 @@ use borrow.Author.Needs.{needs}
 use Rattle.frames.proofs.write_opcode.Statement.{statement}
 use Rattle.frames.proofs.write_opcode.Tie as tie
 
-put-u8-requires : tie.Need-put-u8-requires
-put-u8-requires c κs = search needs
-
-put-u64-requires : tie.Need-put-u64-requires
-put-u64-requires c κs = search needs
-
-same-length : tie.Need-same-length
-same-length c = search needs
-
 returns : tie.Need-returns
 returns c =
     let a = c .before .before .before .before .before .before .before .before .before .args in
@@ -32,4 +23,4 @@ returns c =
     ∙ ap (λ (l : List ℕ). placed 0 (l ++ bytes 8 (a .sequence)) o) (one-byte (a .opcode) (search needs))
 
 pub write-opcode-spec : {M : Type 1} → statement M
-write-opcode-spec = tie.close (tie.spec put-u8-requires put-u64-requires same-length returns)
+write-opcode-spec = tie.close (tie.spec (λ c κs. search needs) (λ c κs. search needs) (λ c. search needs) returns)

@@ -25,15 +25,6 @@ few c = let e = c .before .before .get-u32 .ensures in omega arith
 room : (c : tie.Else3) → let a = c .before .before .before .before .before in count a ≤ (a .args .end - (a .args .at + 4)) / 9
 room c = let e = c .before .before .before .get-u32 .ensures in omega arith
 
-get-u32-requires : tie.Need-get-u32-requires
-get-u32-requires c κs = search needs
-
-cast-n : tie.Need-cast-n
-cast-n c = search needs
-
-add-first : tie.Need-add-first
-add-first c = search needs
-
 returns : tie.Need-returns
 unfolding batchAt
 returns c =
@@ -48,9 +39,6 @@ returns-2 c =
     let h : maxBatchOperations < count (c .before .before .before .before) = omega arith in
     simp (le-ltb _ _ (some (c .before)), lt-ltb _ _ h)
 
-sub-if3 : tie.Need-sub-if3
-sub-if3 c = search needs
-
 returns-3 : tie.Need-returns-3
 unfolding batchAt
 returns-3 c =
@@ -58,9 +46,6 @@ returns-3 c =
     let e = c .before .before .before .get-u32 .ensures in
     let h : (a .args .end - (a .args .at + 4)) / 9 < count a = omega arith in
     simp (le-ltb _ _ (some (c .before .before)), le-ltb _ _ (few (c .before)), lt-ltb _ _ h)
-
-check-operations-requires : tie.Need-check-operations-requires
-check-operations-requires c κs = search needs
 
 returns-4 : tie.Need-returns-4
 unfolding batchAt
@@ -73,12 +58,12 @@ pub check-batch-spec : {M : Type 1} → statement M
 check-batch-spec =
     tie.close
     (tie.spec
-    get-u32-requires
-    cast-n
-    add-first
+    (λ c κs. search needs)
+    (λ c. search needs)
+    (λ c. search needs)
     returns
     returns-2
-    sub-if3
+    (λ c. search needs)
     returns-3
-    check-operations-requires
+    (λ c κs. search needs)
     returns-4)

@@ -5,22 +5,9 @@ use Rattle.layout.specs.declared.Shape.{Shape}
 use Rattle.meaning.specs.Log.{operationsOf}
 use Rattle.log.specs.Told.{nextsTold}
 use Rattle.log.proofs.FrameLaws.{single-ends}
-use native.Mathlib.Omega.{arith}
 use borrow.Author.Needs.{needs}
 use Rattle.log.proofs.check_body.Statement.{statement}
 use Rattle.log.proofs.check_body.Tie as tie
-
-enum-told : tie.Need-enum-told
-enum-told c = search needs
-
-operation-end-requires : tie.Need-operation-end-requires
-operation-end-requires c κs = search needs
-
-enum-told-2 : tie.Need-enum-told-2
-enum-told-2 c = search needs
-
-check-batch-requires : tie.Need-check-batch-requires
-check-batch-requires c κs = search needs
 
 returns : tie.Need-returns
 returns c =
@@ -37,4 +24,4 @@ returns-2 c =
 pub check-body-spec : {M : Type 1} → statement M
 check-body-spec =
     tie.close
-    (tie.spec enum-told operation-end-requires enum-told-2 check-batch-requires returns returns-2)
+    (tie.spec (λ c. search needs) (λ c κs. search needs) (λ c. search needs) (λ c κs. search needs) returns returns-2)

@@ -34,40 +34,16 @@ turn c e =
     ∙ sym (turn-on (a .config) s (a .end) (l .left) (l .next) (getD s (l .next) 0) (c .before .before .before .loop-test .taken) (c .before .before .if1 .left) tag)
     ∙ l .inv .1
 
-loop-holds : tie.Need-loop-holds Inv-loop μ-loop
-loop-holds c = (search needs, refl)
-
-add-first : tie.Need-add-first Inv-loop μ-loop
-add-first c = search needs
-
 returns : tie.Need-returns Inv-loop μ-loop
 returns c =
     let l = c .before .before .loop in
     let a = c .before .before .before .before .args in
     sym (sym (l .inv .1) ∙ turn-past (a .config) (now (a .log)) (a .end) (l .left) (l .next) (c .before .loop-test .taken) (c .if1 .taken))
 
-shared-slice-read-operation-end : tie.Need-shared-slice-read-operation-end Inv-loop μ-loop
-shared-slice-read-operation-end c = search needs
-
-operation-end-requires : tie.Need-operation-end-requires Inv-loop μ-loop
-operation-end-requires c κs = search needs
-
-enum-known-behind : tie.Need-enum-known-behind Inv-loop μ-loop
-enum-known-behind c = search needs
-
-enum-known-why : tie.Need-enum-known-why Inv-loop μ-loop
-enum-known-why c = search needs
-
 returns-2 : tie.Need-returns-2 Inv-loop μ-loop
 returns-2 c =
     let b = c .before .before .before in
     turn b (c .before .why .given .1)
-
-sub-left : tie.Need-sub-left Inv-loop μ-loop
-sub-left c = search needs
-
-loop-less : tie.Need-loop-less Inv-loop μ-loop
-loop-less c = search needs
 
 loop-again : tie.Need-loop-again Inv-loop μ-loop
 loop-again c =
@@ -89,15 +65,15 @@ check-operations-spec =
     (tie.spec
     Inv-loop
     μ-loop
-    loop-holds
-    add-first
+    (λ c. (search needs, refl))
+    (λ c. search needs)
     returns
-    shared-slice-read-operation-end
-    operation-end-requires
-    enum-known-behind
-    enum-known-why
+    (λ c. search needs)
+    (λ c κs. search needs)
+    (λ c. search needs)
+    (λ c. search needs)
     returns-2
-    sub-left
-    loop-less
+    (λ c. search needs)
+    (λ c. search needs)
     loop-again
     returns-3)

@@ -15,7 +15,6 @@ use Rattle.meaning.specs.Log.{outOfOrder, shapeOf, operationsOf, frameRead}
 use Rattle.log.specs.declared.ReadFrame.{ReadFrame}
 use Rattle.log.specs.Told.{nextsTold, operationCount, frameTold}
 use Rattle.log.proofs.FrameLaws.{payloadBody, decode-out-of-order, decode-refused, decode-left-over, decode-whole}
-use native.Mathlib.Omega.{arith}
 use borrow.Author.Needs.{needs}
 use Rattle.log.proofs.decode.Statement.{statement}
 use Rattle.log.proofs.decode.Tie as tie
@@ -50,47 +49,11 @@ body c =
     ∙ ap (λ (x : Shape). nextsTold (operationsOf x (a .config) s (a .at + 8 + a .n) (getD s (a .at + 8) 0) (a .at + 17))) (shape (c .before))
     ∙ ap (λ (k : ℕ). nextsTold (operationsOf (shapeOf (num s (a .at + 8) 1)) (a .config) s (a .at + 8 + a .n) k (a .at + 17))) (opcode (c .before)))
 
-add-get-u64 : tie.Need-add-get-u64
-add-get-u64 c = search needs
-
-get-u64-requires : tie.Need-get-u64-requires
-get-u64-requires c κs = search needs
-
-out-of-order-requires : tie.Need-out-of-order-requires
-out-of-order-requires c κs = search needs
-
 returns : tie.Need-returns
 returns c =
     let s = c .before .before .before .before in
     let a = s .args in
     sym (ap (told s) (decode-out-of-order (a .config) (now (a .log)) (a .previous) (a .at) (a .n) (order (c .before) ∙ c .if1 .taken)))
-
-add-opcode : tie.Need-add-opcode
-add-opcode c = search needs
-
-shared-slice-read-opcode : tie.Need-shared-slice-read-opcode
-shared-slice-read-opcode c = search needs
-
-shape-of-requires : tie.Need-shape-of-requires
-shape-of-requires c κs = search needs
-
-add-first : tie.Need-add-first
-add-first c = search needs
-
-add-end : tie.Need-add-end
-add-end c = search needs
-
-add-end-2 : tie.Need-add-end-2
-add-end-2 c = search needs
-
-check-body-requires : tie.Need-check-body-requires
-check-body-requires c κs = search needs
-
-enum-known-next : tie.Need-enum-known-next
-enum-known-next c = search needs
-
-enum-known-why : tie.Need-enum-known-why
-enum-known-why c = search needs
 
 returns-2 : tie.Need-returns-2
 returns-2 c =
@@ -107,15 +70,6 @@ returns-3 c =
     let n = c .before .before .next in
     sym (ap (told s) (decode-left-over (a .config) (now (a .log)) (a .previous) (a .at) (a .n) (in-order (b .before .before .before)) (n .given .0 .0) (body b ∙ n .given .1) (c .if2 .taken)))
 
-operation-count-requires : tie.Need-operation-count-requires
-operation-count-requires c κs = search needs
-
-add-t23 : tie.Need-add-t23
-add-t23 c = search needs
-
-add-t24 : tie.Need-add-t24
-add-t24 c = search needs
-
 returns-4 : tie.Need-returns-4
 returns-4 c =
     let b = c .before .before .before .before .before in
@@ -130,22 +84,22 @@ pub decode-spec : {M : Type 1} → statement M
 decode-spec =
     tie.close
     (tie.spec
-    add-get-u64
-    get-u64-requires
-    out-of-order-requires
+    (λ c. search needs)
+    (λ c κs. search needs)
+    (λ c κs. search needs)
     returns
-    add-opcode
-    shared-slice-read-opcode
-    shape-of-requires
-    add-first
-    add-end
-    add-end-2
-    check-body-requires
-    enum-known-next
-    enum-known-why
+    (λ c. search needs)
+    (λ c. search needs)
+    (λ c κs. search needs)
+    (λ c. search needs)
+    (λ c. search needs)
+    (λ c. search needs)
+    (λ c κs. search needs)
+    (λ c. search needs)
+    (λ c. search needs)
     returns-2
     returns-3
-    operation-count-requires
-    add-t23
-    add-t24
+    (λ c κs. search needs)
+    (λ c. search needs)
+    (λ c. search needs)
     returns-4)

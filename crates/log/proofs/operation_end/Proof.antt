@@ -5,7 +5,6 @@ use Rattle.meaning.specs.Log.{operationAt}
 use Rattle.log.specs.declared.ReadOperation.{ReadOperation}
 use Rattle.log.specs.Told.{nextTold}
 use Rattle.log.proofs.OperationLaws.{endOf, end-told}
-use native.Mathlib.Omega.{arith}
 use borrow.Author.Needs.{needs}
 use Rattle.log.proofs.operation_end.Statement.{statement}
 use Rattle.log.proofs.operation_end.Tie as tie
@@ -16,18 +15,6 @@ ended : (c : tie.After-read-operation) {y : ReadOperation} → c .read-operation
 ended c e =
     let a = c .before .before .args in
     ap endOf (sym e ∙ c .read-operation .ensures) ∙ end-told (operationAt (a .config) (now (a .log)) (a .end) (a .tag) (a .at))
-
-read-operation-requires : tie.Need-read-operation-requires
-read-operation-requires c κs = search needs
-
-enum-known-next : tie.Need-enum-known-next
-enum-known-next c = search needs
-
-enum-known-next-2 : tie.Need-enum-known-next-2
-enum-known-next-2 c = search needs
-
-enum-known-why : tie.Need-enum-known-why
-enum-known-why c = search needs
 
 returns : tie.Need-returns
 returns c = ended (c .before .before .before) (c .before .next .given .1)
@@ -42,10 +29,10 @@ pub operation-end-spec : {M : Type 1} → statement M
 operation-end-spec =
     tie.close
     (tie.spec
-    read-operation-requires
-    enum-known-next
-    enum-known-next-2
-    enum-known-why
+    (λ c κs. search needs)
+    (λ c. search needs)
+    (λ c. search needs)
+    (λ c. search needs)
     returns
     returns-2
     returns-3)

@@ -8,18 +8,6 @@ use borrow.Author.Needs.{needs}
 use Rattle.log.proofs.put_at.Statement.{statement}
 use Rattle.log.proofs.put_at.Tie as tie
 
-get-u64-requires : tie.Need-get-u64-requires
-get-u64-requires c κs = search needs
-
-add-first : tie.Need-add-first
-add-first c = search needs
-
-item-length-requires : tie.Need-item-length-requires
-item-length-requires c κs = search needs
-
-add-t11 : tie.Need-add-t11
-add-t11 c = search needs
-
 returns : tie.Need-returns
 returns c =
     let a = c .before .before .before .args in
@@ -29,4 +17,4 @@ returns c =
     simp (id, next)
 
 pub put-at-spec : {M : Type 1} → statement M
-put-at-spec = tie.close (tie.spec get-u64-requires add-first item-length-requires add-t11 returns)
+put-at-spec = tie.close (tie.spec (λ c κs. search needs) (λ c. search needs) (λ c κs. search needs) (λ c. search needs) returns)

@@ -3,18 +3,14 @@ use Prim.Native.Nat.{ℕ, _+_}
 use mathlib.Core.Path.{_≡_, sym, ap, _∙_}
 use borrow.Author.Tests.{not-true, not-false}
 use denote.Ref.{now}
-use Rattle.refusal.specs.Refusal.{Result}
 use Rattle.layout.specs.Layout.{frameLength}
-use Rattle.rows.specs.declared.Row.{Row}
-use Rattle.meaning.specs.Replay.{Frame}
 use Rattle.meaning.specs.Log.{frameAt, frameRead}
-use Rattle.frames.specs.Envelope.{envelopeAt, frameWithin, PayloadThere}
+use Rattle.frames.specs.Envelope.{frameWithin, PayloadThere}
 use Rattle.frames.specs.declared.Envelope.{Envelope}
 use Rattle.frames.specs.declared.Envelope.the-variants.{Payload}
 use Rattle.frames.proofs.Envelopes.{frame-within, payload-there}
 use Rattle.log.specs.Told.{frameTold}
 use Rattle.log.proofs.FrameLaws.{payload-wrong, payload-decodes}
-use native.Mathlib.Omega.{arith}
 use borrow.Author.Needs.{needs}
 use Rattle.log.proofs.read_frame.Statement.{statement}
 use Rattle.log.proofs.read_frame.Tie as tie
@@ -30,17 +26,8 @@ stands c e =
 there : (c : tie.After-read-envelope) {n : ℕ} → c .read-envelope .result ≡ Payload n → let a = c .before .before .args in PayloadThere (now (a .log)) (a .at) n
 there c {n} e = let a = c .before .before .args in payload-there (now (a .log)) (a .at) n (sym (c .read-envelope .ensures) ∙ e)
 
-read-envelope-requires : tie.Need-read-envelope-requires
-read-envelope-requires c κs = search needs
-
-enum-told : tie.Need-enum-told
-enum-told c = search needs
-
-enum-known-n : tie.Need-enum-known-n
-enum-known-n c = search needs
-
 payload-crc-holds-requires : tie.Need-payload-crc-holds-requires
-payload-crc-holds-requires c κs = there (c .before .before .before) (c .before .n .given .1) .there
+payload-crc-holds-requires c κs = (search needs, there (c .before .before .before) (c .before .n .given .1) .there)
 
 returns : tie.Need-returns
 returns c =
@@ -55,9 +42,6 @@ decode-requires : tie.Need-decode-requires
 decode-requires c κs =
     let p = there (c .before .before .before .before .before) (c .before .before .before .n .given .1) in
     (search needs, (p .low, p .there))
-
-enum-known-why : tie.Need-enum-known-why
-enum-known-why c = search needs
 
 returns-2 : tie.Need-returns-2
 returns-2 c = sym (ap frameTold (stands (c .before .before) (c .enum-told .given .1)))
@@ -79,13 +63,13 @@ pub read-frame-spec : {M : Type 1} → statement M
 read-frame-spec =
     tie.close
     (tie.spec
-    read-envelope-requires
-    enum-told
-    enum-known-n
+    (λ c κs. search needs)
+    (λ c. search needs)
+    (λ c. search needs)
     payload-crc-holds-requires
     returns
     decode-requires
-    enum-known-why
+    (λ c. search needs)
     returns-2
     returns-3
     returns-4)

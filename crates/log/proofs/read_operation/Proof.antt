@@ -20,18 +20,9 @@ tested : (c : tie.After-check-item) {y : Measured} → c .check-item .result ≡
     → let a = c .before .before .before .before .args in itemAt PastTheEnd (a .config) (now (a .log)) (a .end) (a .at + 8) ≡ fromMeasured y
 tested c e = measured-is _ (c .check-item .ensures) e
 
-add-start : tie.Need-add-start
-add-start c = search needs
-
 returns : tie.Need-returns
 unfolding operationAt
 returns c = simp (lt-ltb _ _ (c .if1 .taken))
-
-check-item-requires : tie.Need-check-item-requires
-check-item-requires c κs = search needs
-
-enum-known-n : tie.Need-enum-known-n
-enum-known-n c = search needs
 
 put-at-requires : tie.Need-put-at-requires
 put-at-requires c κs =
@@ -41,9 +32,6 @@ put-at-requires c κs =
     let inside = w .inside in
     let few = w .few in
     (search needs, (omega arith, omega arith))
-
-enum-known-why : tie.Need-enum-known-why
-enum-known-why c = search needs
 
 returns-2 : tie.Need-returns-2
 unfolding operationAt
@@ -56,9 +44,6 @@ unfolding operationAt
 returns-3 c =
     let b = c .before .before .before in
     simp (le-ltb _ _ (b .before .before .if1 .left), eq-eqb _ _ (b .before .if2 .taken), tested b (c .before .why .given .1))
-
-get-u64-requires : tie.Need-get-u64-requires
-get-u64-requires c κs = search needs
 
 returns-4 : tie.Need-returns-4
 unfolding operationAt
@@ -76,14 +61,14 @@ pub read-operation-spec : {M : Type 1} → statement M
 read-operation-spec =
     tie.close
     (tie.spec
-    add-start
+    (λ c. search needs)
     returns
-    check-item-requires
-    enum-known-n
+    (λ c κs. search needs)
+    (λ c. search needs)
     put-at-requires
-    enum-known-why
+    (λ c. search needs)
     returns-2
     returns-3
-    get-u64-requires
+    (λ c κs. search needs)
     returns-4
     returns-5)

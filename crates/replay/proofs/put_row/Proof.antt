@@ -1,6 +1,6 @@
 -- `put_row` follows `applyPut`: the old row of the ID is marked, then the tests, then the row is appended.
 use Prim.Native.Nat.{ℕ, _+_, _*_, _≤_}
-use mathlib.Core.Path.{_≡_, sym, subst}
+use mathlib.Core.Path.{sym, subst}
 use mathlib.Core.List.{[], _∷_, _++_}
 use denote.Ref.{now}
 use Rattle.config.specs.Limits.{maxSnapshotBytes}
@@ -34,20 +34,8 @@ room c =
     let same = k .take-out .kept .1 .0 in
     record { words-room = omega arith; entries-room = omega arith; fewer = omega arith }
 
-take-out-requires : tie.Need-take-out-requires
-take-out-requires c κs = search needs
-
-record-length-requires : tie.Need-record-length-requires
-record-length-requires c κs = search needs
-
 add-size : tie.Need-add-size
 add-size c = let b = bounded (c .before) in omega arith
-
-same-length : tie.Need-same-length
-same-length c = search needs
-
-same-length-2 : tie.Need-same-length-2
-same-length-2 c = search needs
 
 returns : tie.Need-returns
 returns c =
@@ -58,17 +46,8 @@ returns c =
     let e = o .ensures rows s in
     follows-refused (a .d) _ _ _ _ (put-many (a .d) (a .lent) (a .row) _ _ (a .table) (o .result) rows e (c .if1 .taken))
 
-add-if2 : tie.Need-add-if2
-add-if2 c = search needs
-
 add-if2-2 : tie.Need-add-if2-2
 add-if2-2 c = let b = bounded (c .before .before) in omega arith
-
-same-length-3 : tie.Need-same-length-3
-same-length-3 c = search needs
-
-same-length-4 : tie.Need-same-length-4
-same-length-4 c = search needs
 
 returns-2 : tie.Need-returns-2
 returns-2 c =
@@ -80,12 +59,6 @@ returns-2 c =
     let size = c .before .before .before .record-length .ensures in
     follows-refused (a .d) _ _ _ _ (put-large (a .d) (a .lent) (a .row) _ _ (a .table) (o .result) rows e (c .before .if1 .left) (omega arith))
 
-same-length-5 : tie.Need-same-length-5
-same-length-5 c = search needs
-
-same-length-6 : tie.Need-same-length-6
-same-length-6 c = search needs
-
 returns-3 : tie.Need-returns-3
 returns-3 c =
     let k = c .before .before .before .before .before .before .before .before in
@@ -96,21 +69,12 @@ returns-3 c =
     let size = c .before .before .before .before .record-length .ensures in
     follows-refused (a .d) _ _ _ _ (put-unlent (a .d) (a .lent) (a .row) _ _ (a .table) (o .result) rows e (c .before .before .if1 .left) (omega arith) (c .if3 .taken))
 
-pack-requires : tie.Need-pack-requires
-pack-requires c κs = search needs
-
 put-requires : tie.Need-put-requires
 put-requires c κs =
     let k = c .before .before .before .before .before .before .before .before .before .before .before in
     let kept = k .before .before .before .before .before .before .pre .1 .1 .1 .1 .1 in
     let e = k .take-out .ensures (kept .rows) (kept .stands) in
     (e .stands .grown, (room (c .before .before .before), (e .cell-is, e .absent)))
-
-same-length-7 : tie.Need-same-length-7
-same-length-7 c = search needs
-
-same-length-8 : tie.Need-same-length-8
-same-length-8 c = search needs
 
 returns-4 : tie.Need-returns-4
 returns-4 c =
@@ -138,22 +102,22 @@ pub put-row-spec : {M : Type 1} → statement M
 put-row-spec =
     tie.close
     (tie.spec
-    take-out-requires
-    record-length-requires
+    (λ c κs. search needs)
+    (λ c κs. search needs)
     add-size
-    same-length
-    same-length-2
+    (λ c. search needs)
+    (λ c. search needs)
     returns
-    add-if2
+    (λ c. search needs)
     add-if2-2
-    same-length-3
-    same-length-4
+    (λ c. search needs)
+    (λ c. search needs)
     returns-2
-    same-length-5
-    same-length-6
+    (λ c. search needs)
+    (λ c. search needs)
     returns-3
-    pack-requires
+    (λ c κs. search needs)
     put-requires
-    same-length-7
-    same-length-8
+    (λ c. search needs)
+    (λ c. search needs)
     returns-4)

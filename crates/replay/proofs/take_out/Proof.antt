@@ -1,14 +1,10 @@
 -- `take_out` finds the live row of an ID and marks it.
-use mathlib.Core.Path.{_≡_}
 use denote.Ref.{now}
 use Rattle.replay.proofs.TableLaws.{found-within, mark-sizes, taken-out}
 use native.Mathlib.Omega.{arith}
 use borrow.Author.Needs.{needs}
 use Rattle.replay.proofs.take_out.Statement.{statement}
 use Rattle.replay.proofs.take_out.Tie as tie
-
-find-requires : tie.Need-find-requires
-find-requires c κs = search needs
 
 mark-requires : tie.Need-mark-requires
 mark-requires c κs =
@@ -27,9 +23,6 @@ sub-t15 c =
     let sizes = mark-sizes (a .d) (now (a .words)) (m .last .0) (now (a .entries)) (a .table) (k .rows) (a .id) (f .result .link) (m .result) (k .stands) (m .ensures) (f .ensures .0) in
     omega arith
 
-same-length : tie.Need-same-length
-same-length c = search needs
-
 returns : tie.Need-returns
 returns c =
     let a = c .before .before .before .before .before .before .before .before .before .before .args in
@@ -38,4 +31,4 @@ returns c =
     λ rows s. taken-out (a .d) (now (a .words)) (m .last .0) (now (a .entries)) (a .table) rows (a .id) (f .result .link) (m .result) s (m .ensures) (f .ensures .0) (f .result .cell) (f .ensures .1)
 
 pub take-out-spec : {M : Type 1} → statement M
-take-out-spec = tie.close (tie.spec find-requires mark-requires sub-t15 same-length returns)
+take-out-spec = tie.close (tie.spec (λ c κs. search needs) mark-requires sub-t15 (λ c. search needs) returns)

@@ -1,0 +1,92 @@
+-- The calls that write the listing's lines, as `Store` has its calls; and what an answer of `recover` is listed as.
+use Prim.Native.Nat.{ℕ}
+use mathlib.Core.Path.{_≡_}
+use mathlib.Core.List.{List, _++_}
+use lib.ListN.{take, drop}
+use denote.Ref.{RefT, now}
+use Rattle.refusal.specs.declared.Refusal.{Refusal}
+use Rattle.refusal.specs.declared.Written.{Written}
+use Rattle.refusal.specs.declared.Written.the-variants as Writes
+use Rattle.refusal.specs.Refusal.{writtenTold}
+use Rattle.fields.specs.Fields.{Bytes}
+use Rattle.rows.specs.declared.Node.{Node}
+use Rattle.meaning.specs.Recovery.{recover}
+use Rattle.meaning.specs.Calls.{outputAfter}
+use Rattle.recovery.specs.declared.Recovery.{Recovery}
+use Rattle.recovery.specs.declared.RecoveryInfo.{RecoveryInfo}
+use Rattle.recovery.specs.declared.Recovery.the-variants as Recoveries
+use Rattle.listing_text.specs.Lines.{firstLine, refusedLine}
+use Rattle.listing_text.specs.Listing.{nodeLines, listingText, firstLineCall, refusalLineCall, nodeLineCall}
+use Rattle.listing_text.specs.declared.Heading.{Heading}
+use Rattle.listing_text.specs.declared.Stopped.{Stopped}
+use Rattle.listing_text.specs.declared.Stopped.the-variants as Stops
+use Rattle.listing_text.proofs.first_line.Reads as FirstLineCall
+use Rattle.listing_text.proofs.refusal_line.Reads as RefusalLineCall
+use Rattle.listing_text.proofs.node_line.Reads as NodeLineCall
+use Rattle.promises.specs.OneAnswer.{OneEach}
+use Rattle.promises.specs.Recover.{Recovers, recordsShown}
+
+-- first_line(heading, out): the answer and the output after
+pub record FirstLineMeets (heading : Heading) (out : List ℕ) (r : Written) (after : List ℕ) : Type 0 where
+  pub result-is : r ≡ writtenTold (firstLineCall heading out)
+  pub output-is : after ≡ outputAfter out (firstLineCall heading out)
+
+-- refusal_line(stopped, out): as `first_line`
+pub record RefusalLineMeets (stopped : Stopped) (out : List ℕ) (r : Written) (after : List ℕ) : Type 0 where
+  pub result-is : r ≡ writtenTold (refusalLineCall stopped out)
+  pub output-is : after ≡ outputAfter out (refusalLineCall stopped out)
+
+-- node_line(snapshot, log, rows, count, node, d, out): as `first_line`
+pub record NodeLineMeets (snapshot log rows : List ℕ) (count : ℕ) (node : Node) (d : ℕ) (out : List ℕ) (r : Written) (after : List ℕ) : Type 0 where
+  pub result-is : r ≡ writtenTold (nodeLineCall d rows count (node .0) snapshot log out)
+  pub output-is : after ≡ outputAfter out (nodeLineCall d rows count (node .0) snapshot log out)
+
+-- what the first line tells of an answer
+abbrev pub headingShown : RecoveryInfo → Heading
+headingShown i =
+    record {
+      sequence = i .sequence;
+      records = i .records;
+      active = i .active;
+      replayed = i .replayed;
+      skipped = i .skipped;
+      keep = i .keep;
+      tail = i .tail;
+    }
+
+-- the listing of an answer with the row words beside it: the first line and each node's, or the refusal's line
+abbrev pub listingShown : List ℕ → List ℕ → Recovery → List ℕ → List ℕ
+listingShown snapshot log (Recoveries.Recovered i) words = firstLine (headingShown i) ++ nodeLines 0 (recordsShown snapshot log i words)
+listingShown snapshot log (Recoveries.RefusedSnapshot why) words = refusedLine (Stops.Snapshot why)
+listingShown snapshot log (Recoveries.RefusedLog why at) words = refusedLine (Stops.Log why at)
+
+-- an output of which n bytes were written: its first n bytes are the line, and the rest is untouched
+pub record LineLeft (line : List ℕ) (n : ℕ) (out after : List ℕ) : Type 0 where
+  pub is-line : take n after ≡ line
+  pub rest-untouched : drop n after ≡ drop n out
+
+pub record ListingCalls : Type 0 where
+  pub first-line-contract : (κs : _) (heading : Heading) (out : RefT (List ℕ)) (r : Written) (after : RefT (List ℕ))
+      → FirstLineCall.Learnt κs (heading, (out, tt)) r (heading, (after, tt)) → FirstLineMeets heading (now out) r (now after)
+  pub first-line-one-answer : (heading : Heading) (out : List ℕ) → OneEach (FirstLineMeets heading out)
+  pub refusal-line-contract : (κs : _) (stopped : Stopped) (out : RefT (List ℕ)) (r : Written) (after : RefT (List ℕ))
+      → RefusalLineCall.Learnt κs (stopped, (out, tt)) r (stopped, (after, tt)) → RefusalLineMeets stopped (now out) r (now after)
+  pub refusal-line-one-answer : (stopped : Stopped) (out : List ℕ) → OneEach (RefusalLineMeets stopped out)
+  pub node-line-contract : (κs : _) (snapshot log rows : RefT (List ℕ)) (count : ℕ) (node : Node) (d : ℕ) (out : RefT (List ℕ)) (r : Written) (after : RefT (List ℕ))
+      → NodeLineCall.Learnt κs (snapshot, (log, (rows, (count, (node, (d, (out, tt))))))) r (snapshot, (log, (rows, (count, (node, (d, (after, tt)))))))
+      → NodeLineMeets (now snapshot) (now log) (now rows) count node d (now out) r (now after)
+  pub node-line-one-answer : (snapshot log rows : List ℕ) (count : ℕ) (node : Node) (d : ℕ) (out : List ℕ)
+      → OneEach (NodeLineMeets snapshot log rows count node d out)
+  -- what stands in the output
+  pub first-line-left : (heading : Heading) (n : ℕ) (out after : List ℕ) → FirstLineMeets heading out (Writes.Bytes n) after
+      → LineLeft (firstLine heading) n out after
+  pub refusal-line-left : (stopped : Stopped) (n : ℕ) (out after : List ℕ) → RefusalLineMeets stopped out (Writes.Bytes n) after
+      → LineLeft (refusedLine stopped) n out after
+  -- a refused call changes no byte
+  pub first-line-untouched : (heading : Heading) (out : List ℕ) (why : Refusal) (after : List ℕ) → FirstLineMeets heading out (Writes.Refused why) after → after ≡ out
+  pub refusal-line-untouched : (stopped : Stopped) (out : List ℕ) (why : Refusal) (after : List ℕ) → RefusalLineMeets stopped out (Writes.Refused why) after → after ≡ out
+  pub node-line-untouched : (snapshot log rows : List ℕ) (count : ℕ) (node : Node) (d : ℕ) (out : List ℕ) (why : Refusal) (after : List ℕ)
+      → NodeLineMeets snapshot log rows count node d out (Writes.Refused why) after → after ≡ out
+  -- what an answer is listed as is the listing that is defined
+  pub listing-shown : (lent : ℕ) (snapshot log : List ℕ) → Bytes snapshot → Bytes log → (r : Recovery) (words : List ℕ) → Recovers lent snapshot log r words
+      → listingShown snapshot log r words ≡ listingText snapshot log (recover lent snapshot log)

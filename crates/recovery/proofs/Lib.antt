@@ -1,0 +1,5 @@
+pub mod RunLaws
+pub mod Outcomes
+pub mod Beginning
+pub mod Ending
+pub mod FromSnapshot
