@@ -1,0 +1,135 @@
+// The listing: what snapshot.bin and wal.bin of the folder at hand hold, a line for each node, or why they are refused.
+// A file that cannot be opened or read, or that exceeds 65,536 bytes, is refused by 35, before anything else.
+// The text is made by the calls of `listing_text`; here files are read and lines written out. The room for a line is more than
+// any line takes (crate listing_theorems), so that none is left out.
+use libc::STDOUT_FILENO;
+use listing_text::Heading;
+use listing_text::Stopped;
+use recovery::Recovery;
+use recovery::RecoveryInfo;
+use refusal::Written;
+use rows::Node;
+
+fn main() {
+    let mut snapshot = io::large_buffer();
+    let mut log = io::large_buffer();
+    let mut rows = [0u64; 8192];
+    let mut active = [0u32; 4096];
+    let mut line = io::large_buffer();
+    list(&mut snapshot, &mut log, &mut rows, &mut active, &mut line);
+}
+
+fn list(
+    snapshot: &mut [u8],
+    log: &mut [u8],
+    rows: &mut [u64],
+    active: &mut [u32],
+    line: &mut [u8],
+) {
+    let a = read(b"snapshot.bin", snapshot);
+    let b = read(b"wal.bin", log);
+    if snapshot.len() < a {
+        refuse(Stopped::File, line);
+        return;
+    }
+    if log.len() < b {
+        refuse(Stopped::File, line);
+        return;
+    }
+    list_store(&snapshot[0..a], &log[0..b], rows, active, line);
+}
+
+// How many bytes a file has; more than the room has, if it cannot be opened or read or does not fit.
+fn read(name: &[u8], room: &mut [u8]) -> usize {
+    let beyond = room.len() + 1;
+    let fd = os::open_read(name);
+    if fd < 0 {
+        return beyond;
+    }
+    let n = io::read_full(fd, room);
+    let whole = ended(fd);
+    libc::close(fd);
+    if whole { n } else { beyond }
+}
+
+// Whether a read finds the file at its end.
+fn ended(fd: i32) -> bool {
+    let mut more = [0u8; 1];
+    libc::read(fd, &mut more) == 0
+}
+
+fn list_store<'a>(
+    snapshot: &'a [u8],
+    log: &'a [u8],
+    rows: &mut [u64],
+    active: &mut [u32],
+    line: &mut [u8],
+) {
+    match recovery::recover(snapshot, log, rows, active) {
+        Recovery::Recovered(info) => list_state(info, snapshot, log, rows, line),
+        Recovery::RefusedSnapshot(why) => refuse(Stopped::Snapshot(why), line),
+        Recovery::RefusedLog(why, at) => refuse(Stopped::Log(why, at), line),
+    }
+}
+
+fn list_state<'a>(
+    info: RecoveryInfo,
+    snapshot: &'a [u8],
+    log: &'a [u8],
+    rows: &[u64],
+    line: &mut [u8],
+) {
+    let config = info.config;
+    let heading = Heading {
+        sequence: info.sequence,
+        records: info.records,
+        active: info.active,
+        replayed: info.replayed,
+        skipped: info.skipped,
+        keep: info.keep,
+        tail: info.tail,
+    };
+    let written = listing_text::first_line(heading, line);
+    show(written, line);
+    list_nodes(snapshot, log, rows, info.records, config.dimensions, line);
+}
+
+// No more than the rows lent: beyond them every node is refused by 30.
+fn list_nodes<'a>(
+    snapshot: &'a [u8],
+    log: &'a [u8],
+    rows: &[u64],
+    count: usize,
+    d: usize,
+    line: &mut [u8],
+) {
+    if rows::rows_lent_plain(rows) < count {
+        return;
+    }
+    let mut i: usize = 0;
+    while i < count {
+        let node = Node(i as u32);
+        let written = listing_text::node_line(snapshot, log, rows, count, node, d, line);
+        show(written, line);
+        i += 1;
+    }
+}
+
+fn refuse(stopped: Stopped, line: &mut [u8]) {
+    let written = listing_text::refusal_line(stopped, line);
+    show(written, line);
+}
+
+// The bytes that a call wrote at the front of the line.
+fn show(written: Written, line: &[u8]) {
+    match written {
+        Written::Bytes(n) => show_front(line, n),
+        Written::Refused(_) => {}
+    }
+}
+
+fn show_front(line: &[u8], n: usize) {
+    if n <= line.len() {
+        io::write_all(STDOUT_FILENO, &line[0..n]);
+    }
+}

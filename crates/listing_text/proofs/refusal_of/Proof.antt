@@ -1,0 +1,16 @@
+-- `refusal_of` has its two tests in order.
+use borrow.Author.Tests.{eq-eqb, ne-eqb}
+use Rattle.listing_text.proofs.refusal_of.Statement.{statement}
+use Rattle.listing_text.proofs.refusal_of.Tie as tie
+
+returns : tie.Need-returns
+returns c = simp (eq-eqb _ _ (c .if1 .taken))
+
+returns-2 : tie.Need-returns-2
+returns-2 c = simp (ne-eqb _ _ (c .before .if1 .left), eq-eqb _ _ (c .if2 .taken))
+
+returns-3 : tie.Need-returns-3
+returns-3 c = simp (ne-eqb _ _ (c .before .if1 .left), ne-eqb _ _ (c .if2 .left))
+
+pub refusal-of-spec : {M : Type 1} → statement M
+refusal-of-spec = tie.close (tie.spec returns returns-2 returns-3)

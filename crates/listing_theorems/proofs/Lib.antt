@@ -1,0 +1,4 @@
+pub mod Digits
+pub mod Told
+pub mod Called
+pub mod Proved

@@ -1,0 +1,2 @@
+pub mod ListingCalled
+pub mod ListingTells

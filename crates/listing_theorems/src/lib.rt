@@ -1,0 +1,1 @@
+// What the calls of `listing_text` come to over the state that recovery left. See specs/ListingCalled.antt.
