@@ -1,13 +1,37 @@
-/* The three calls of Lambspool for a playout host in C or C++. Link liblambspool.a, which tools/archive builds for x86-64 Linux.
+/* lambspool.h: stores of any legal size, from C and C++, version 0.1.0
  *
- * Every call takes any numbers and any bytes. Of a pointer it asks what C asks of memory that is handed over: `bytes` can be read for
- * `length` bytes, `out` can be written for `room` bytes, and no one else changes them until the call is back. With length or room 0
- * the pointer may be null; nothing is read or written through it. No call keeps a pointer, allocates, or has state.
- * The CRC makes what it needs on the stack: leave 20 KiB for 384 bytes or more, and 36 KiB for 4096 or more. */
+ * A port of parts of vecnook, Copyright (c) 2026 Gayoung; MIT licence, whose text is in the repository's NOTICE.
+ *
+ * A store is a snapshot and a log, and beside them a graph cache that can be missing. These calls recover a store, read a snapshot or
+ * a cache, look at what was read, and write snapshots and frames of the log. Each is proved to do what its definition says
+ * (crates/lambspool; docs/BELIEVE.md tells which definitions those are). Link liblambspool.a and nothing else:
+ *
+ *     gcc host.c -I DIR DIR/liblambspool.a -o host           (tools/archive DIR leaves both files in DIR)
+ *     gcc host.c $(pkg-config --cflags --libs lambspool) -o host                     (after make -C host install)
+ *
+ * The host reads and writes files and holds the lock; no call here knows of files. docs/PLAYOUT.md has what that asks of a host.
+ * host/lambspool.c is a program over these calls. The playout host's three calls are in playout.h; both can be linked into one program.
+ *
+ * What every call asks
+ *   Any numbers and any bytes may be handed in. Of a pointer a call asks what C asks of memory that is handed over: it can be read, or
+ *   where it is not const written, for as many entries as the number behind it says; it is aligned as its type asks (bytes: not at
+ *   all); no one else changes it until the call is back; and what is lent to be written overlaps nothing else that is handed in. A
+ *   mapped file that another process may cut or write is no such memory: read it into memory of your own. With a count of 0 the
+ *   pointer may be null.
+ *
+ * What every call gives
+ *   `number` is 0 if nothing is refused, and else one of the numbers below. What a refused call leaves is said at each call.
+ *   A result of more than 16 bytes is written to `*result`, whose address is given back; `*result` need not be set before.
+ *
+ * What no call does
+ *   No call keeps a pointer, allocates, blocks, sets errno, or has state: any number of calls may run at once in threads, each with
+ *   tables of its own. The longest, a recovery with a log of 1 GiB, takes a second or two.
+ *
+ * Stack
+ *   Leave 64 KiB. tests/the_program runs every call on no more. */
 #ifndef LAMBSPOOL_H
 #define LAMBSPOOL_H
 
-#include <stdbool.h>
 #include <stddef.h>
 #include <stdint.h>
 
@@ -15,18 +39,278 @@
 extern "C" {
 #endif
 
-/* How many bytes a delete frame has. */
-#define LAMBSPOOL_DELETE_FRAME 29
+#define LAMBSPOOL_VERSION "0.1.0"
+#define LAMBSPOOL_VERSION_NUMBER 0x000100 /* major, minor, patch: 16, 8 and 8 bits */
 
-/* The CRC-32 of IEEE 802.3 of `length` bytes, as zlib's crc32(0, ..) gives it; of no bytes it is 0. */
-uint32_t lambspool_crc32(const uint8_t *bytes, size_t length);
+/* ---- bounds */
 
-/* Whether `length` bytes are UTF-8 by RFC 3629: no surrogates, nothing over U+10FFFF, no longer form than needed; no bytes are. */
-bool lambspool_is_utf8(const uint8_t *bytes, size_t length);
+#define LAMBSPOOL_MAX_SNAPSHOT 268435456 /* bytes of a snapshot, at least 52 */
+#define LAMBSPOOL_MAX_LOG 1073741824     /* bytes of a log */
+#define LAMBSPOOL_MAX_CACHE 134217728    /* bytes of a graph cache, at least 52 */
+#define LAMBSPOOL_MAX_RECORDS 100000     /* records of a store, live and deleted */
+#define LAMBSPOOL_MAX_DIMENSIONS 4096    /* coordinates of a vector, at least 1 */
+#define LAMBSPOOL_MAX_CAPTION 16384      /* bytes of a caption */
+#define LAMBSPOOL_MAX_FRAME 8388620      /* bytes of a frame: a payload of 17 to 8,388,608 and 12 around it */
+#define LAMBSPOOL_MAX_OPERATIONS 1024    /* operations of a batch, at least 1 */
 
-/* Writes the log frame that deletes `id` under `sequence` to out's first 29 bytes and gives 29. If `sequence` is 0 or `room` below 29
- * it gives 0 and changes no byte. Bytes behind the 29th are never touched. docs/PLAYOUT.md says when the frame may be appended. */
-size_t lambspool_delete_frame(uint64_t sequence, uint64_t id, uint8_t *out, size_t room);
+/* Tables that suffice for every legal store: 1,600,000 bytes of rows, 400,000 of active nodes, 800,000 of starts. */
+#define LAMBSPOOL_ROW_WORDS (2 * LAMBSPOOL_MAX_RECORDS)
+#define LAMBSPOOL_ACTIVE_ENTRIES LAMBSPOOL_MAX_RECORDS
+#define LAMBSPOOL_START_WORDS LAMBSPOOL_MAX_RECORDS
+
+/* Room that suffices for every line of a listing. */
+#define LAMBSPOOL_MAX_FIRST_LINE 193
+#define LAMBSPOOL_MAX_REFUSAL_LINE 64
+#define LAMBSPOOL_MAX_NODE_LINE (LAMBSPOOL_MAX_CAPTION + 48)
+
+/* ---- numbers of refusal */
+
+enum lambspool_number {
+    LAMBSPOOL_ACCEPTED = 0,
+    LAMBSPOOL_LENGTH_OUT_OF_BOUNDS = 1,  /* a snapshot or a cache is too short or too long */
+    LAMBSPOOL_WRONG_MAGIC = 2,           /* it does not begin as a snapshot */
+    LAMBSPOOL_WRONG_VERSION = 3,         /* of a snapshot: not 1 or 2 */
+    LAMBSPOOL_PAST_THE_END = 4,          /* a field runs past the body or the payload */
+    LAMBSPOOL_WRONG_METRIC = 5,          /* not 0, 1 or 2 */
+    LAMBSPOOL_WRONG_DIMENSIONS = 6,      /* not 1 to 4096 */
+    LAMBSPOOL_WRONG_M = 7,               /* not 2 to 64 */
+    LAMBSPOOL_WRONG_EF = 8,              /* not M to 4096 */
+    LAMBSPOOL_WRONG_COUNT = 9,           /* of records: over 100,000, or more than can follow */
+    LAMBSPOOL_WRONG_FLAG = 10,           /* of a record: not 0 or 1 */
+    LAMBSPOOL_VECTOR_PAST_THE_END = 11,  /* of a snapshot's record */
+    LAMBSPOOL_NOT_FINITE = 12,           /* a coordinate */
+    LAMBSPOOL_VECTOR_ALL_ZERO = 13,      /* with the cosine metric */
+    LAMBSPOOL_CAPTION_TOO_LONG = 14,     /* over 16,384 bytes */
+    LAMBSPOOL_NOT_UTF8 = 15,             /* a caption */
+    LAMBSPOOL_BYTES_LEFT_OVER = 16,      /* behind the last field */
+    LAMBSPOOL_WRONG_FILE_CRC = 17,       /* of a snapshot or a cache */
+    LAMBSPOOL_ACTIVE_TWICE = 18,         /* an ID is live twice in a snapshot */
+    LAMBSPOOL_TOO_FEW_ROWS = 19,         /* lent: see lambspool_recover */
+    LAMBSPOOL_LOG_TOO_LONG = 20,         /* over 1,073,741,824 bytes */
+    LAMBSPOOL_WRONG_LENGTH_CRC = 21,     /* of a frame */
+    LAMBSPOOL_WRONG_LENGTH = 22,         /* of a payload: not 17 to 8,388,608 */
+    LAMBSPOOL_WRONG_PAYLOAD_CRC = 23,    /* of a frame */
+    LAMBSPOOL_WRONG_SEQUENCE = 24,       /* 0, or not one more than the frame before */
+    LAMBSPOOL_WRONG_BATCH_COUNT = 25,    /* not 1 to 1024, or more than can follow */
+    LAMBSPOOL_UNKNOWN_OPERATION = 26,    /* of a frame */
+    LAMBSPOOL_GAP_AFTER_SNAPSHOT = 27,   /* the first frame to replay is not the snapshot's next */
+    LAMBSPOOL_STORAGE_LIMITS = 28,       /* a put finds 100,000 records, or passes a snapshot's bytes */
+    LAMBSPOOL_INACTIVE_DELETE = 29,      /* a frame of one delete whose ID is not live */
+    LAMBSPOOL_NO_SUCH_NODE = 30,         /* a node or a count is not within the table lent, or a level not within a node */
+    LAMBSPOOL_ROW_DOES_NOT_FIT = 31,     /* a row's part is not inside the bytes handed in */
+    LAMBSPOOL_OUTPUT_TOO_SHORT = 32,     /* the room lent */
+    LAMBSPOOL_REQUEST_MALFORMED = 33,    /* operations handed to an encoder */
+    LAMBSPOOL_TOO_LARGE = 34,            /* the snapshot to be written */
+    LAMBSPOOL_FILE_UNREADABLE = 35,      /* given by no call here: the listing's own, for a host that cannot open or read a file */
+    LAMBSPOOL_STALE_CACHE = 40,          /* its header is not this snapshot's */
+    LAMBSPOOL_WRONG_NODE_COUNT = 41,     /* of a cache, and so to 50 */
+    LAMBSPOOL_WRONG_ENTRY = 42,
+    LAMBSPOOL_MISSING_ENTRY = 43,
+    LAMBSPOOL_WRONG_RNG_STATE = 44,
+    LAMBSPOOL_COUNT_OVER_BYTES = 45,
+    LAMBSPOOL_WRONG_LEVELS = 46,
+    LAMBSPOOL_WRONG_DEGREE = 47,
+    LAMBSPOOL_WRONG_NEIGHBOUR = 48,
+    LAMBSPOOL_EDGE_TO_MISSING_LEVEL = 49,
+    LAMBSPOOL_ENTRY_BELOW_HIGHEST = 50,
+    LAMBSPOOL_TOO_FEW_STARTS = 51        /* lent: see lambspool_read_cache */
+};
+
+/* No node: lookup found none or refused, a cache has no entry or was refused. */
+#define LAMBSPOOL_NO_NODE UINT32_MAX
+
+/* Where something lies, or what was refused. LAMBSPOOL_FILE is for lambspool_refusal_line alone. */
+#define LAMBSPOOL_SNAPSHOT 0
+#define LAMBSPOOL_LOG 1
+#define LAMBSPOOL_FILE 2
+
+/* Metrics. */
+#define LAMBSPOOL_SQUARED_L2 0
+#define LAMBSPOOL_COSINE 1
+#define LAMBSPOOL_INNER_PRODUCT 2
+
+/* A node is a place in the record table, from 0 on in the order of the snapshot and then of the log; an ID is the application's
+ * number. Neither is ever taken for the other. */
+
+/* ---- rows and operations: two words each */
+
+/* A row is the ID, then a packed word. */
+#define LAMBSPOOL_ROW_DELETED(word) ((int)((uint64_t)(word) >> 63))
+#define LAMBSPOOL_ROW_SOURCE(word) ((uint32_t)((uint64_t)(word) >> 62 & 1)) /* LAMBSPOOL_SNAPSHOT or LAMBSPOOL_LOG */
+#define LAMBSPOOL_ROW_CAPTION_LENGTH(word) ((size_t)((uint64_t)(word) >> 47 & 0x7fff))
+#define LAMBSPOOL_ROW_OFFSET(word) ((size_t)((uint64_t)(word) & 0x7fffffffffff)) /* of the first coordinate byte in the source */
+
+/* An operation is the ID, then a packed word: of a put, where its caption lies in the captions handed in; of a delete, 0. A length
+ * that has no place in the word becomes the largest that has, which is refused by 14 as the length itself would be. */
+#define LAMBSPOOL_PUT(caption_length, caption_offset) \
+    ((uint64_t)1 << 63 | (uint64_t)((caption_length) > 0x7fff ? 0x7fff : (caption_length)) << 48 | ((uint64_t)(caption_offset) & 0xffffffffffff))
+#define LAMBSPOOL_DELETE ((uint64_t)0)
+
+/* ---- the CRC-32 of IEEE 802.3 */
+
+uint32_t lambspool_crc32_start(void);
+uint32_t lambspool_crc32_update(uint32_t crc, const void *bytes, size_t length);
+uint32_t lambspool_crc32_finish(uint32_t crc);
+/* In pieces, so that a file need not be in memory at once: start, then an update for each piece in order, then finish gives what
+ * lambspool_crc32_of gives of the whole. Between start and finish the number is a register, not a CRC. */
+
+uint32_t lambspool_crc32_of(const void *bytes, size_t length);
+/* As zlib's crc32(0, ..); of no bytes it is 0. */
+
+/* ---- reading */
+
+typedef struct lambspool_snapshot {
+    uint32_t number;
+    uint32_t crc;             /* the snapshot's own, its last 4 bytes */
+    uint32_t metric;
+    size_t dimensions;
+    size_t m;
+    size_t ef_construction;
+    uint64_t seed;
+    uint64_t sequence;        /* of the last change that is inside */
+    size_t records;           /* live and deleted: nodes 0 to records - 1 */
+    size_t active;            /* live */
+    size_t size;              /* bytes of the records, were they written; a full snapshot has 56 more */
+} lambspool_snapshot;
+
+lambspool_snapshot *lambspool_read_snapshot(lambspool_snapshot *result, const void *bytes, size_t length,
+    uint64_t *rows, size_t row_words, uint32_t *active, size_t active_entries);
+/* Reads a snapshot of version 1 or 2.
+ *
+ * Rows lent are the least of row_words / 2, active_entries and 100,000; a snapshot with more records is refused by 19.
+ *
+ * Accepted: rows holds a row a record in node order, active the live nodes by rising ID, and both zeros behind.
+ * Refused, by 1 to 19: both tables are all zeros, and so is *result but for the number. */
+
+typedef struct lambspool_recovery {
+    uint32_t number;
+    uint32_t source;          /* refused: LAMBSPOOL_SNAPSHOT or LAMBSPOOL_LOG */
+    uint32_t crc;             /* the snapshot's */
+    uint32_t metric;
+    size_t at;                /* refused in the log: the first byte of the frame that was refused; by 20, 0 */
+    size_t dimensions;
+    size_t m;
+    size_t ef_construction;
+    uint64_t seed;
+    uint64_t sequence;        /* of the last change: the snapshot's if no frame was replayed */
+    size_t records;
+    size_t active;
+    size_t replayed;          /* frames of the log that were taken */
+    size_t skipped;           /* frames at or below the snapshot's sequence: already inside, so not taken again */
+    size_t keep;              /* the byte behind the last whole frame */
+    size_t tail;              /* bytes from there to the log's end: a frame that is not whole, not read */
+    size_t size;
+} lambspool_recovery;
+
+lambspool_recovery *lambspool_recover(lambspool_recovery *result, const void *snapshot, size_t snapshot_length,
+    const void *log, size_t log_length, uint64_t *rows, size_t row_words, uint32_t *active, size_t active_entries);
+/* Reads a snapshot and takes the log's frames in order; nothing is repaired. Tables as for lambspool_read_snapshot: a row for each
+ * record of the snapshot and for each put that was taken. With LAMBSPOOL_ROW_WORDS and LAMBSPOOL_ACTIVE_ENTRIES lent no legal store
+ * is refused by 19.
+ *
+ * Accepted: source and at are 0. Refused: both tables are all zeros, and *result but for number, source and at. The log's length (20)
+ * is tested first, then the snapshot (1 to 19), then the log (4, 12 to 16, 19, 21 to 29). */
+
+/* ---- looking at what was read: the tables, and the very bytes that were handed to the reading */
+
+typedef struct lambspool_node {
+    uint32_t number;
+    uint32_t node;
+} lambspool_node;
+
+lambspool_node lambspool_lookup(const uint64_t *rows, size_t row_words, size_t count, uint64_t id);
+/* The lowest live node of an ID below `count`, which is the records that the reading told; LAMBSPOOL_NO_NODE if there is none.
+ * Refused by 30 if the table has no `count` rows. */
+
+typedef struct lambspool_part {
+    uint32_t number;
+    uint32_t source;          /* LAMBSPOOL_SNAPSHOT or LAMBSPOOL_LOG */
+    size_t at;                /* the part's first byte in that source */
+    size_t length;
+} lambspool_part;
+
+lambspool_part *lambspool_caption(lambspool_part *result, const void *snapshot, size_t snapshot_length,
+    const void *log, size_t log_length, const uint64_t *rows, size_t row_words, size_t count, uint32_t node, size_t dimensions);
+lambspool_part *lambspool_vector(lambspool_part *result, const void *snapshot, size_t snapshot_length,
+    const void *log, size_t log_length, const uint64_t *rows, size_t row_words, size_t count, uint32_t node, size_t dimensions);
+/* Where the caption of a node lies, or its coordinates: 4 bytes each, f32 little-endian. A deleted node has the empty caption.
+ * Refused by 6, 30 (no such node, or no `count` rows) or 31: the empty part at the snapshot's start. */
+
+/* ---- the graph cache */
+
+typedef struct lambspool_cache {
+    uint32_t number;
+    uint32_t entry;           /* a node, or LAMBSPOOL_NO_NODE */
+    size_t nodes;
+    uint64_t rng_state;
+} lambspool_cache;
+
+lambspool_cache *lambspool_read_cache(lambspool_cache *result, const void *bytes, size_t length,
+    size_t dimensions, size_t m, size_t ef_construction, uint64_t seed, uint32_t metric,
+    uint32_t snapshot_crc, uint64_t sequence, size_t count, uint64_t *starts, size_t start_words);
+/* Reads the cache that belongs to a snapshot. Settings, CRC, sequence and count are those that lambspool_read_snapshot told of that
+ * snapshot; a recovery's sequence and records are later, if a frame was replayed.
+ *
+ * Accepted: starts holds the byte at which each node begins, and zeros behind. Refused, by 1, 4 to 8, 16, 17 or 40 to 51: starts is
+ * all zeros, entry LAMBSPOOL_NO_NODE, the rest 0. */
+
+typedef struct lambspool_neighbours_part {
+    uint32_t number;
+    size_t at;
+    size_t length;            /* bytes: 4 for each neighbour, a node as u32 little-endian */
+} lambspool_neighbours_part;
+
+lambspool_neighbours_part *lambspool_neighbours(lambspool_neighbours_part *result, const void *cache, size_t length,
+    const uint64_t *starts, size_t start_words, size_t count, uint32_t node, size_t level);
+/* Where the neighbours of a node at a level lie in the cache, with the starts that its reading left. Refused by 30 (no such node or
+ * level, or no `count` starts) or 31: the empty part at the cache's start. */
+
+/* ---- writing */
+
+typedef struct lambspool_bytes {
+    uint32_t number;
+    size_t length;            /* written to the front of `out`; refused: 0 */
+} lambspool_bytes;
+/* No call writes behind the last byte of what it gives, and a refused one changes no byte of `out`. */
+
+lambspool_bytes lambspool_write_snapshot(size_t dimensions, size_t m, size_t ef_construction, uint64_t seed, uint32_t metric,
+    uint64_t sequence, const uint64_t *rows, size_t row_words, size_t count, const void *snapshot, size_t snapshot_length,
+    const void *log, size_t log_length, void *out, size_t room);
+lambspool_bytes lambspool_write_compacted_snapshot(size_t dimensions, size_t m, size_t ef_construction, uint64_t seed,
+    uint32_t metric, uint64_t sequence, const uint64_t *rows, size_t row_words, size_t count, const void *snapshot,
+    size_t snapshot_length, const void *log, size_t log_length, void *out, size_t room);
+/* Writes a snapshot of version 2 of what a reading left: all its records, or the live ones alone, which then get new nodes. Settings,
+ * sequence and count are those that the reading told, `snapshot` and `log` the bytes that it was handed (no log: 0 bytes). A room of
+ * 56 + size always suffices. Captions and coordinates are copied and not tested again.
+ *
+ * Beside the whole log, a full snapshot written so recovers to the same records. Refused by 5 to 8, 30, 31, 34, 32, in this order. */
+
+lambspool_bytes lambspool_encode_frame(size_t dimensions, size_t m, size_t ef_construction, uint64_t seed, uint32_t metric,
+    uint64_t sequence, const uint64_t *operations, size_t operation_words, const uint32_t *coordinates, size_t coordinate_count,
+    const void *captions, size_t captions_length, void *out, size_t room);
+lambspool_bytes lambspool_encode_batch(size_t dimensions, size_t m, size_t ef_construction, uint64_t seed, uint32_t metric,
+    uint64_t sequence, const uint64_t *operations, size_t operation_words, const uint32_t *coordinates, size_t coordinate_count,
+    const void *captions, size_t captions_length, void *out, size_t room);
+/* Writes one frame of the log: of exactly one operation, or of a batch of 1 to 1024 that is taken whole or not at all. `operations`
+ * has two words each; `coordinates` the bits of the f32 coordinates, `dimensions` for each put, in the order of the puts. `sequence`
+ * is one more than that of the log's last frame; docs/PLAYOUT.md says when a frame may be appended.
+ *
+ * Refused by 5 to 8, 24 (sequence 0), 25, 33, then for each operation 14, 33, 12, 13, 15; then 22, 32. */
+
+/* ---- the lines of a listing, each with its newline */
+
+lambspool_bytes lambspool_first_line(uint64_t sequence, size_t records, size_t active, size_t replayed, size_t skipped,
+    size_t keep, size_t tail, void *out, size_t room);
+/* Of an accepted recovery: "seq 2 records 2 active 1 replayed 2 skipped 0 keep 78 tail 3". Refused by 32. */
+
+lambspool_bytes lambspool_refusal_line(uint32_t source, uint32_t number, size_t at, void *out, size_t room);
+/* "refused snapshot 17", "refused log 21 at 39", or "refused file 35" if source is neither LAMBSPOOL_SNAPSHOT nor LAMBSPOOL_LOG; the
+ * numbers are written as they are handed in. Refused by 32. */
+
+lambspool_bytes lambspool_node_line(const void *snapshot, size_t snapshot_length, const void *log, size_t log_length,
+    const uint64_t *rows, size_t row_words, size_t count, uint32_t node, size_t dimensions, void *out, size_t room);
+/* "1 7 live Ho" or "0 7 gone": node, ID, state, and the caption of a live node as it is stored, whatever it holds. Refused as
+ * lambspool_caption is, then by 32. */
 
 #ifdef __cplusplus
 }

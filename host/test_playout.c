@@ -1,6 +1,6 @@
-/* Calls the three functions of lambspool.h and says what was wrong: a line for each check, and last 'N passed, M failed'.
+/* Calls the three functions of playout.h and says what was wrong: a line for each check, and last 'N passed, M failed'.
  * It includes nothing but the header, so that it also compiles where there is no C library for x86-64; hence the declarations. */
-#include "lambspool.h"
+#include "playout.h"
 
 int printf(const char *, ...);
 void *mmap(void *, size_t, int, int, int, long);

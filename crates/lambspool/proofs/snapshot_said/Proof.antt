@@ -1,0 +1,13 @@
+-- Each case by its number and its values.
+use borrow.Author.Needs.{needs}
+use Rattle.lambspool.proofs.snapshot_said.Statement.{statement}
+use Rattle.lambspool.proofs.snapshot_said.Tie as tie
+
+returns : tie.Need-returns
+returns c = simp (c .before .before .before .answer .given .1, c .number .ensures)
+
+returns-2 : tie.Need-returns-2
+returns-2 c = simp (c .before .before .answer2 .given .1, c .number2 .ensures)
+
+pub snapshot-said-spec : {M : Type 1} → statement M
+snapshot-said-spec = tie.close (tie.spec (λ c. search needs) (λ c κs. search needs) (λ c. search needs) (λ c κs. search needs) returns returns-2)
