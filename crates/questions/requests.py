@@ -38,17 +38,22 @@ def of_the_fixed_list():
             yield request
 
 
-def requests():
-    rising = bytes(i % 256 for i in range(LONGEST))
+RISING = bytes(i % 256 for i in range(LONGEST))
+
+
+def of_bytes():
     for call in 1, 21:
         for length in 0, 1, 15, 16, 17, 511, 512, 600:
-            yield body(call, parts=[rising[:length]])
+            yield body(call, parts=[RISING[:length]])
         yield body(call, parts=[b"123456789"])
     for call in 2, 22:
         yield body(call, parts=[b""])
         yield body(call, parts=["Frühstück 早餐 🥐 ".encode() * 20])
         for text in "f48fbfbf", "c080", "eda080", "f4908080", "ee8080", "80", "c3":
             yield body(call, parts=[bytes.fromhex(text)])
+
+
+def of_settings():
     for d in 0, 1, 4096, MOST:
         yield body(3, [d])
     for d, m, ef in (1, 2, 2), (4096, 64, 4096), (1, 16, 200):
@@ -67,6 +72,9 @@ def requests():
     yield coordinates(1, *[0x80000000] * 4096)
     for seed, count in (42, 0), (42, 1), (0, 100000), (MOST, MOST):
         yield body(6, [seed, count])
+
+
+def malformed():
     yield b""
     for call in 0, 24, 255:
         yield body(call)
@@ -82,8 +90,14 @@ def requests():
     yield body(5, [1], [bytes(8), b""])
     yield body(5, [1, 1], [bytes(8)])
     yield body(5, [], [bytes(8)])
+
+
+def requests():
+    yield from of_bytes()
+    yield from of_settings()
+    yield from malformed()
     yield from of_the_fixed_list()
-    yield body(1, parts=[rising[: LONGEST - 7]])
+    yield body(1, parts=[RISING[: LONGEST - 7]])
 
 
 def main():

@@ -22,8 +22,7 @@ pub fn lines(
     match call {
         7 => read(request::part(request, 0), rows, active, answer),
         16 => found(request, rows, answer),
-        17 => caption(request, rows, answer),
-        _ => vector(request, rows, answer),
+        _ => view(call, request, rows, answer),
     }
 }
 
@@ -74,23 +73,18 @@ fn found(request: &[u8], rows: &[u64], answer: &mut [u8]) -> Cursor {
     }
 }
 
-fn caption(request: &[u8], rows: &[u64], answer: &mut [u8]) -> Cursor {
+// 17 asks for the caption, 18 for the vector.
+fn view(call: u8, request: &[u8], rows: &[u64], answer: &mut [u8]) -> Cursor {
     let d = request::number(request, 0) as usize;
     let count = request::number(request, 1) as usize;
     let node = request::number32(request, 2);
     let snapshot = request::part(request, 1);
     let log = request::part(request, 2);
-    let number = views::caption_number(snapshot, log, rows, count, Node(node), d);
-    let part = views::caption_view(snapshot, log, rows, count, Node(node), d);
-    viewed(answer, number, part)
-}
-
-fn vector(request: &[u8], rows: &[u64], answer: &mut [u8]) -> Cursor {
-    let d = request::number(request, 0) as usize;
-    let count = request::number(request, 1) as usize;
-    let node = request::number32(request, 2);
-    let snapshot = request::part(request, 1);
-    let log = request::part(request, 2);
+    if call == 17 {
+        let number = views::caption_number(snapshot, log, rows, count, Node(node), d);
+        let part = views::caption_view(snapshot, log, rows, count, Node(node), d);
+        return viewed(answer, number, part);
+    }
     let number = views::vector_number(snapshot, log, rows, count, Node(node), d);
     let part = views::vector_view(snapshot, log, rows, count, Node(node), d);
     viewed(answer, number, part)

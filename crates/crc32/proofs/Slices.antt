@@ -8,9 +8,9 @@ use native.Mathlib.Numerals.{add-one}
 use native.Mathlib.Omega.{arith}
 use lib.Bits.{bitXor, xor-comm, xor-shr, xor-zero-r}
 use lib.ListN.{length, getD, take, drop, take-append-drop, length-drop, drop-of-length-le}
-use lib.Seq.{drop-cons, drop-drop, take-add, length-take-le}
+use lib.Seq.{drop-cons, drop-drop, take-add, take-all, length-take-le}
 use Rattle.elimination.proofs.Xor.{xor-reversed}
-use Rattle.crc32.specs.Crc.{bitsIn, bytesIn}
+use Rattle.crc32.specs.Crc.{allOnes, bitsIn, bytesIn, crcOf}
 use Rattle.crc32.specs.Steps.{shifts, turns}
 use Rattle.crc32.proofs.Shift.{shifts-split, shifts-add, turns-xor, turns-add, turns-zero, turns-split, rounds-halves}
 use Rattle.crc32.proofs.Bytes.{bits-in, bytesIn-append, bytesIn-xor, bytesIn-start}
@@ -159,21 +159,31 @@ no-more : (i c : ℕ) (s : List ℕ) → length s ≤ i → bytesIn c (drop i s)
 unfolding bytesIn
 no-more i c s h = ap (bytesIn c) (drop-of-length-le s h)
 
+-- a slice that is made anew is the slice
+pub made-anew : (c : ℕ) (s : List ℕ) → bytesIn c (take (length s - 0) s) ≡ bytesIn c s
+made-anew c s = ap (bytesIn c) (take-all (length s - 0) s (omega arith))
+
+-- what starts as all ones and ends complemented is the CRC
+pub crc-finished : (s : List ℕ) (first last r : ℕ) → first ≡ allOnes → last ≡ bytesIn first s → r ≡ bitXor last allOnes → r ≡ crcOf s
+unfolding crcOf
+crc-finished s first last r f l e = e ∙ ap (λ (x : ℕ). bitXor x allOnes) (l ∙ ap (λ (x : ℕ). bytesIn x s) f)
+
 -- a run over the bytes of s from `at` on, which has come to place i: its rest is the whole run
 pub record Underway (c at : ℕ) (s : List ℕ) (here i : ℕ) : Type 0 where
   pub within : i ≤ length s
   pub run : bytesIn here (drop i s) ≡ bytesIn c (drop at s)
 
-module _ (c at : ℕ) (s : List ℕ) where
-  pub underway-none : at ≤ length s → Underway c at s c at
-  underway-none h = record { within = h; run = refl }
+module _ {c at : ℕ} {s : List ℕ} {here i : ℕ} (u : Underway c at s here i) where
+  pub underway-on : (n : ℕ) {next : ℕ} → i + n ≤ length s → next ≡ bytesIn here (take n (drop i s)) → Underway c at s next (i + n)
+  underway-on n h e = record { within = h; run = ap (λ (x : ℕ). bytesIn x (drop (i + n) s)) e ∙ onward n i here s ∙ u .run }
 
-  module _ (here i : ℕ) (u : Underway c at s here i) where
-    pub underway-on : (n next : ℕ) → i + n ≤ length s → next ≡ bytesIn here (take n (drop i s)) → Underway c at s next (i + n)
-    underway-on n next h e = record { within = h; run = ap (λ (x : ℕ). bytesIn x (drop (i + n) s)) e ∙ onward n i here s ∙ u .run }
+  -- four bytes as `four` puts them in, with no zero byte after them
+  pub underway-four : {next : ℕ} → i + 4 ≤ length s → next ≡ turns 8 0 (bytesIn here (take 4 (drop i s))) → Underway c at s next (i + 4)
+  unfolding turns
+  underway-four h e = underway-on 4 h e
 
-    pub underway-one : (next : ℕ) → i < length s → next ≡ bitsIn 8 here (getD s i 0) → Underway c at s next (i + 1)
-    underway-one next h e = record { within = omega arith; run = ap (λ (x : ℕ). bytesIn x (drop (i + 1) s)) e ∙ onward-one i here s h ∙ u .run }
+  pub underway-one : {next : ℕ} → i < length s → next ≡ bitsIn 8 here (getD s i 0) → Underway c at s next (i + 1)
+  underway-one h e = record { within = omega arith; run = ap (λ (x : ℕ). bytesIn x (drop (i + 1) s)) e ∙ onward-one i here s h ∙ u .run }
 
-    pub underway-out : length s ≤ i → here ≡ bytesIn c (drop at s)
-    underway-out h = sym (no-more i here s h) ∙ u .run
+  pub underway-out : length s ≤ i → here ≡ bytesIn c (drop at s)
+  underway-out h = sym (no-more i here s h) ∙ u .run

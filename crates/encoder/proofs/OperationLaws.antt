@@ -4,8 +4,7 @@ use mathlib.Core.Path.{_≡_, refl, sym, ap, _∙_}
 use mathlib.Core.Bool.{Bool, true, false, not, cond, true≢false}
 use mathlib.Core.List.{List}
 use native.Mathlib.Omega.{arith}
-use borrow.Author.Tests.{lt-ltb, le-ltb, ltb-false}
-use lib.Dec.{ltb, eqb}
+use borrow.Author.Tests.{lt-ltb, le-ltb}
 use lib.ListN.{length, take, length-append}
 use lib.Seq.{length-take-le}
 use Rattle.utf8.specs.Utf8.{isUtf8}
@@ -22,10 +21,10 @@ use Rattle.rows.specs.declared.Operation.{Operation}
 use Rattle.refusal.specs.Refusal.{Result, answer, refused, _>>=_, refuse, sizeTold}
 use Rattle.refusal.specs.declared.Refusal.{Refusal}
 use Rattle.refusal.specs.declared.Measured.the-variants as Measures
-use Rattle.refusal.specs.declared.Refusal.the-variants.{CaptionTooLong, RequestMalformed, NotUtf8}
-use Rattle.refusal.proofs.Results.{answer-injective, passed, went}
+use Rattle.refusal.specs.declared.Refusal.the-variants.{CaptionTooLong, NotUtf8}
 use Rattle.meaning.specs.Item.{coordinates}
 use Rattle.meaning.specs.Encoder.{Asked, isPut, askedLength, askedStart, Tagged, putFields, putFor, encodePut, encodeDelete, encodeOperation}
+use Rattle.meaning.proofs.OperationEncoded.{put-encoded, delete-encoded}
 use Rattle.encoder.specs.Requests.{tagOf, fieldsOf, taggedLength, mostTagged, captionTold, PutFits, Fits}
 
 -- ---- how long
@@ -112,29 +111,21 @@ module _ (c : Config) (coords captions : List ℕ) (a : Asked) (e : Tagged) wher
   o = operationOf (a .id) (a .word)
 
   put-encodes : isPut a ≡ true → encodePut c (take (c .dimensions) coords) captions a ≡ answer e → Encodes c coords captions (operationOf (a .id) (a .word)) e
-  unfolding encodePut
   put-encodes t h =
       let cs = take (c .dimensions) coords in
       let n = askedLength a in
-      let at = askedStart a in
-      let text = part captions at n in
-      let s1 = went CaptionTooLong (ltb maxMetadata n) _ e h in
-      let s2 = went RequestMalformed (ltb (length captions) (at + n)) _ e (s1 .then) in
-      let s3 = passed (coordinates c (coordinateBytes cs)) _ e (s2 .then) in
-      let s4 = went NotUtf8 (not (isUtf8 text)) _ e (s3 .then) in
-      let is : e ≡ record { tag = 1; fields = putFields (a .id) cs n text } = sym (answer-injective _ e (s4 .then)) in
+      let text = part captions (askedStart a) n in
+      let p = put-encoded c cs captions a e h in
       record {
-        tag-is = ap (λ (x : Tagged). x .tag) is ∙ sym (ap tagOf t);
-        fields-are = ap (λ (x : Tagged). x .fields) is ∙ ap (λ (i : ℕ). putFields i cs n text) (sym (id-of (a .id) (a .word))) ∙ sym (put-fields (c .dimensions) coords captions o t);
-        short = λ _. ltb-false maxMetadata n (s1 .test-false);
-        inside = λ _. ltb-false (length captions) (at + n) (s2 .test-false);
+        tag-is = ap (λ (x : Tagged). x .tag) (p .is) ∙ sym (ap tagOf t);
+        fields-are = ap (λ (x : Tagged). x .fields) (p .is) ∙ ap (λ (i : ℕ). putFields i cs n text) (sym (id-of (a .id) (a .word))) ∙ sym (put-fields (c .dimensions) coords captions o t);
+        short = λ _. p .short;
+        inside = λ _. p .inside;
       }
 
   delete-encodes : isPut a ≡ false → encodeDelete a ≡ answer e → Encodes c coords captions (operationOf (a .id) (a .word)) e
-  unfolding encodeDelete
   delete-encodes t h =
-      let s = went RequestMalformed (not (eqb (a .word) 0)) _ e h in
-      let is : e ≡ record { tag = 2; fields = bytes 8 (a .id) } = sym (answer-injective _ e (s .then)) in
+      let is = delete-encoded a e h .is in
       record {
         tag-is = ap (λ (x : Tagged). x .tag) is ∙ sym (ap tagOf t);
         fields-are = ap (λ (x : Tagged). x .fields) is ∙ ap (bytes 8) (sym (id-of (a .id) (a .word))) ∙ sym (delete-fields (c .dimensions) coords captions o t);

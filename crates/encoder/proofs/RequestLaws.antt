@@ -1,6 +1,6 @@
 -- A request: how many words it has, how long its payload is, and where each of its tests leads.
-use Prim.Native.Nat.{ℕ, zero, suc, _+_, _*_, _/_, _%_, _≤_, _<_}
-use mathlib.Core.Path.{_≡_, refl, sym, ap, subst, _∙_}
+use Prim.Native.Nat.{ℕ, suc, _+_, _*_, _/_, _%_, _≤_, _<_}
+use mathlib.Core.Path.{_≡_, sym, ap, subst, _∙_}
 use mathlib.Core.Bool.{not, cond}
 use mathlib.Core.List.{List, [], _∷_, _++_, append-assoc}
 use native.Mathlib.Omega.{arith}
@@ -23,9 +23,9 @@ use Rattle.refusal.specs.declared.Measured.the-variants as Measures
 use Rattle.refusal.specs.declared.Written.{Written}
 use Rattle.refusal.specs.declared.Written.the-variants as Writes
 use Rattle.refusal.proofs.Results.{passed, went, not-refused, answer-injective, sized-is}
-use Rattle.meaning.specs.Encoder.{Asked, askedFrom, asked, isPut, putCount, Tagged, encodeOperation, encodeAll, batchCount, taggedBytes, payloadBytes, frameBytes, sealed, wordsChecked, encodeOperations, encodeValid, encode}
+use Rattle.meaning.specs.Encoder.{Asked, asked, isPut, putCount, Tagged, encodeOperation, encodeAll, batchCount, taggedBytes, payloadBytes, frameBytes, sealed, wordsChecked, encodeOperations, encodeValid, encode}
 use Rattle.meaning.specs.Calls.{outputAfter}
-use Rattle.frames.proofs.Frames.{length-frame}
+use Rattle.meaning.proofs.Lengths.{length-asked, length-frame}
 use Rattle.encoder.specs.Requests.{headLength, taggedIn, taggedOf, Accepted}
 
 -- ---- how many words
@@ -60,11 +60,6 @@ length-encoded c coords captions (o ∷ os) es h =
     let s1 = passed (encodeOperation c coords captions o) _ es h in
     let s2 = passed (encodeAll c (cond (isPut o) (drop (c .dimensions) coords) coords) captions os) _ es (s1 .then) in
     ap length (sym (answer-injective (s1 .value ∷ s2 .value) es (s2 .then))) ∙ ap suc (length-encoded c _ captions os (s2 .value) (s2 .first))
-
-length-asked : (n k : ℕ) (words : List ℕ) → length (askedFrom n k words) ≡ n
-unfolding askedFrom
-length-asked zero k words = refl
-length-asked (suc n) k words = ap suc (length-asked n (suc k) words)
 
 pub length-tagged : (c : Config) (words coords captions : List ℕ) (es : List Tagged) → encodeAll c coords captions (asked words) ≡ answer es → length es ≡ length words / 2
 length-tagged c words coords captions es e = length-encoded c coords captions (asked words) es e ∙ length-asked (length words / 2) 0 words

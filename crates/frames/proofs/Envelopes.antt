@@ -1,40 +1,26 @@
 -- The envelope that stands at a byte of the log: what it says of a payload, and that a frame is read by it.
 use mathlib.Core.Path.{_≡_, refl}
-use mathlib.Core.Bool.{Bool, true, false, not, cond}
+use mathlib.Core.Bool.{Bool, true, false, cond}
 use mathlib.Core.List.{List}
-use Prim.Native.Nat.{ℕ, _+_, _-_, _≤_}
+use Prim.Native.Nat.{ℕ, _+_, _-_}
 use native.Mathlib.Omega.{arith}
 use borrow.Author.Tests.{ltb-false, ne-eqb}
-use lib.Dec.{ltb, eqb}
+use lib.Dec.{ltb}
 use lib.ListN.{length}
 use Rattle.crc32.specs.Crc.{crcOf}
 use Rattle.fields.specs.Fields.{part, num}
-use Rattle.config.specs.Limits.{minFrame, maxFrame}
 use Rattle.config.specs.declared.Config.{Config}
 use Rattle.layout.specs.Layout.{frameHead, frameLength}
 use Rattle.refusal.specs.Refusal.{Result, answer, refused, told}
-use Rattle.refusal.specs.declared.Refusal.the-variants.{WrongLengthCrc, WrongLength}
-use Rattle.refusal.proofs.Results.{went, answer-injective}
+use Rattle.refusal.specs.declared.Refusal.the-variants.{WrongLengthCrc}
 use Rattle.meaning.specs.Log.{frameAt, withLength, lengthAt}
+use Rattle.meaning.proofs.FrameRead.{length-read}
 use Rattle.frames.specs.declared.Envelope.the-variants.{TooLittle, Payload, Refused}
 use Rattle.frames.specs.Envelope.{payloadIn, envelopeAt, frameWithin, PayloadThere}
 
 pub length-crc-wrong : (log : List ℕ) (at : ℕ) → (crcOf (part log at 4) ≡ num log (at + 4) 4 → ⊥) → lengthAt log at ≡ refused WrongLengthCrc
 unfolding lengthAt
 length-crc-wrong log at n = simp (ne-eqb _ _ n)
-
--- a length that is read is in bounds
-pub length-bounds : (log : List ℕ) (at n : ℕ) → lengthAt log at ≡ answer n → (minFrame ≤ n) × (n ≤ maxFrame)
-unfolding lengthAt
-length-bounds log at n e =
-    let v = num log at 4 in
-    let s1 = went WrongLengthCrc (not (eqb (crcOf (part log at 4)) (num log (at + 4) 4))) _ n e in
-    let s2 = went WrongLength (ltb v minFrame) _ n (s1 .then) in
-    let s3 = went WrongLength (ltb maxFrame v) _ n (s2 .then) in
-    let is : v ≡ n = answer-injective v n (s3 .then) in
-    let low = ltb-false v minFrame (s2 .test-false) in
-    let high = ltb-false maxFrame v (s3 .test-false) in
-    (omega arith, omega arith)
 
 -- a payload's envelope: the payload and its CRC are all there
 pub payload-there : (log : List ℕ) (at n : ℕ) → envelopeAt log at ≡ Payload n → PayloadThere log at n
@@ -49,7 +35,9 @@ payload-there log at n e = first (ltb (length log - at) frameHead) e
     last m h true k e = absurd (none e)
     last m h false k e =
         let is : m ≡ n = cc in
-        let b = length-bounds log at m h in
+        let b = length-read log at m h in
+        let least = b .least in
+        let most = b .most in
         let left = ltb-false (length log - at) (frameLength m) k in
         record { low = omega arith; high = omega arith; there = omega arith }
 

@@ -1,4 +1,4 @@
--- A frame around its payload, as it is written: how long it is, and the stores that seal it.
+-- A frame around its payload, as it is written: the stores that seal it.
 use mathlib.Core.Path.{_≡_, sym, ap, ap₂, _∙_}
 use mathlib.Core.List.{List, [], _∷_, _++_, append-assoc}
 use Prim.Native.Nat.{ℕ, _+_, _%_, _≤_, _<_}
@@ -12,6 +12,7 @@ use Rattle.fields.proofs.Parts.{length-part}
 use Rattle.fields.proofs.Numbers.{length-bytes}
 use Rattle.fields.proofs.PlacedLaws.{placed-front, placed-keep, placed-over, part-placed, then-placed}
 use Rattle.meaning.specs.Encoder.{frameBytes}
+use Rattle.meaning.proofs.Lengths.{length-frame}
 
 -- a byte as a field writer writes it
 pub one-byte : (v : ℕ) → v < 256 → bytes 1 v ≡ v ∷ []
@@ -26,10 +27,6 @@ frame-parts payload n h =
     append-assoc (bytes 4 n ++ bytes 4 (crcOf (bytes 4 n))) payload (bytes 4 (crcOf payload))
     ∙ append-assoc (bytes 4 n) (bytes 4 (crcOf (bytes 4 n))) (payload ++ bytes 4 (crcOf payload))
     ∙ ap (λ (k : ℕ). bytes 4 k ++ (bytes 4 (crcOf (bytes 4 k)) ++ (payload ++ bytes 4 (crcOf payload)))) (sym h)
-
-pub length-frame : (payload : List ℕ) → length (frameBytes payload) ≡ length payload + 12
-unfolding frameBytes
-length-frame payload = simp (length-append, length-bytes) (omega arith)
 
 -- three stores seal the payload that stands at 8
 pub seal-stores : (o one two three : List ℕ) (n first whole : ℕ) → n + 12 ≤ length o

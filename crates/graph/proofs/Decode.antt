@@ -16,7 +16,9 @@ use Rattle.graph.specs.Graph.{Links, Graph, degreeLimit, neighbourTest, 
 use Rattle.graph.specs.Layout.{linksLength, nodeLength, graphLength}
 use Rattle.graph.specs.Cache.{Read, numbersAt, levelsAt, linksAt, several, readNeighbour, readLevel, readNode}
 use Rattle.graph.specs.Decoded.{graphAt}
-use Rattle.graph.proofs.Several.{parted, several-within, several-tested, did-pass}
+use Rattle.graph.specs.Told.{nextTold}
+use Rattle.graph.specs.declared.ReadNext.the-variants as Nexts
+use Rattle.graph.proofs.Several.{found, parted, several-within, several-tested, did-pass}
 
 pub length-numbers : (n : ℕ) (s : List ℕ) (at : ℕ) → length (numbersAt n s at) ≡ n
 length-numbers zero s at = refl
@@ -119,6 +121,13 @@ level-within m count s end node level at x h e =
     let r = level-read m count s end node level at x e in
     several-within (readNeighbour count s end node (at + 4)) end (neighbour-within count s end node (at + 4)) (num s at 4) 0 (at + 4) x (r .room) (r .listed)
 
+-- the same of where it ends, as it is told
+pub level-next : (m count : ℕ) (s : List ℕ) (end node level at next : ℕ) → at ≤ end → nextTold (readLevel m count s end node level at) ≡ Nexts.Next next
+    → (at + 4 ≤ next) × (next ≤ end)
+level-next m count s end node level at next h e =
+    let f = found (readLevel m count s end node level at) next e in
+    subst (λ (n : ℕ). (at + 4 ≤ n) × (n ≤ end)) (f .next-is) (level-within m count s end node level at (f .read) h (f .is))
+
 pub levels-read : (m count : ℕ) (s : List ℕ) (end node n k at : ℕ) (x : Read Links)
     → several (readLevel m count s end node) n k at ≡ answer x → Lies x (levelsAt n s at) (at + linksLength (x .value))
 levels-read m count s end node zero k at x e =
@@ -170,6 +179,11 @@ node-within m count s end node at x h e =
     several-within (readLevel m count s end node) end
     (λ k a y g f. let v = level-within m count s end node k a y g f in (omega arith, v .1)) (num s at 1) 0 (at + 1) x (r .room) (r .listed) in
     (omega arith, w .1)
+
+pub node-next : (m count : ℕ) (s : List ℕ) (end node at next : ℕ) → at ≤ end → nextTold (readNode m count s end node at) ≡ Nexts.Next next → next ≤ end
+node-next m count s end node at next h e =
+    let f = found (readNode m count s end node at) next e in
+    subst (λ (n : ℕ). n ≤ end) (f .next-is) (node-within m count s end node at (f .read) h (f .is) .1)
 
 pub nodes-read : (m count : ℕ) (s : List ℕ) (end n k at : ℕ) (x : Read Graph)
     → several (readNode m count s end) n k at ≡ answer x → Lies x (graphAt n s at) (at + graphLength (x .value))

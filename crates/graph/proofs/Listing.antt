@@ -27,16 +27,16 @@ pub record Running {A : Type 0} (one : ℕ → ℕ → Result (Read A)) (end tot
   pub under : Under marks (at + 1)
   pub whole : nextTold (several one (total - k) k at) ≡ nextTold (several one total 0 first)
 
-module _ {A : Type 0} (one : ℕ → ℕ → Result (Read A)) (end total first lent : ℕ) where
-  pub running-none : (marks : List ℕ) → first ≤ end → length marks ≡ lent → Under marks (first + 1) → Running one end total first lent marks first 0
-  running-none marks h l u =
+module _ {A : Type 0} {one : ℕ → ℕ → Result (Read A)} {end total first lent : ℕ} where
+  pub running-none : {marks : List ℕ} → first ≤ end → length marks ≡ lent → Under marks (first + 1) → Running one end total first lent marks first 0
+  running-none h l u =
       let e : total - 0 ≡ total = omega arith in
       record { few = omega arith; within = h; same = l; under = u; whole = ap (λ (n : ℕ). nextTold (several one n 0 first)) e }
 
-  pub running-more : (marks marks' : List ℕ) (at k next : ℕ) → Running one end total first lent marks at k → k < total
+  pub running-more : {marks marks' : List ℕ} {at k next : ℕ} → Running one end total first lent marks at k → k < total
       → nextTold (one k at) ≡ Nexts.Next next → next ≤ end → length marks' ≡ length marks → Under marks' (next + 1)
       → Running one end total first lent marks' next (k + 1)
-  running-more marks marks' at k next r h e w l u =
+  running-more {at = at} {k} r h e w l u =
       record {
         few = omega arith;
         within = w;
@@ -45,12 +45,12 @@ module _ {A : Type 0} (one : ℕ → ℕ → Result (Read A)) (end total first l
         whole = sym (turn one total k at h ∙ ap (onNext (λ n. nextTold (several one (total - (k + 1)) (k + 1) n))) e) ∙ r .whole;
       }
 
-  pub running-stop : (marks : List ℕ) (at k : ℕ) (why : Refusal) → Running one end total first lent marks at k → k < total
+  pub running-stop : {marks : List ℕ} {at k : ℕ} {why : Refusal} → Running one end total first lent marks at k → k < total
       → nextTold (one k at) ≡ Nexts.Refused why → Nexts.Refused why ≡ nextTold (several one total 0 first)
-  running-stop marks at k why r h e = sym (turn one total k at h ∙ ap (onNext (λ n. nextTold (several one (total - (k + 1)) (k + 1) n))) e) ∙ r .whole
+  running-stop {at = at} {k} r h e = sym (turn one total k at h ∙ ap (onNext (λ n. nextTold (several one (total - (k + 1)) (k + 1) n))) e) ∙ r .whole
 
-  pub running-done : (marks : List ℕ) (at k : ℕ) → Running one end total first lent marks at k → total ≤ k → Nexts.Next at ≡ nextTold (several one total 0 first)
-  running-done marks at k r h = sym (over one total k at h) ∙ r .whole
+  pub running-done : {marks : List ℕ} {at k : ℕ} → Running one end total first lent marks at k → total ≤ k → Nexts.Next at ≡ nextTold (several one total 0 first)
+  running-done {at = at} {k} r h = sym (over one total k at h) ∙ r .whole
 
 -- ---- a list of neighbours
 pub record Listing (s : List ℕ) (end count node degree first lent : ℕ) (marks : List ℕ) (at i : ℕ) : Type 0 where
@@ -64,9 +64,9 @@ pub record Listing (s : List ℕ) (end count node degree first lent : ℕ) (mark
       nextTold (several (readNeighbour count s end node first) (degree - i) i at)
       ≡ nextTold (several (readNeighbour count s end node first) degree 0 first)
 
-module _ (s : List ℕ) (end count node degree first lent : ℕ) where
-  pub listing-none : (marks : List ℕ) → first ≤ end → length marks ≡ lent → Under marks first → Listing s end count node degree first lent marks first 0
-  listing-none marks h l u =
+module _ {s : List ℕ} {end count node degree first lent : ℕ} where
+  pub listing-none : {marks : List ℕ} → first ≤ end → length marks ≡ lent → Under marks first → Listing s end count node degree first lent marks first 0
+  listing-none {marks} h l u =
       let e : degree - 0 ≡ degree = omega arith in
       record {
         few = omega arith;
@@ -78,7 +78,7 @@ module _ (s : List ℕ) (end count node degree first lent : ℕ) where
         whole = ap (λ (n : ℕ). nextTold (several (readNeighbour count s end node first) n 0 first)) e;
       }
 
-  module _ (marks : List ℕ) (at i : ℕ) (l : Listing s end count node degree first lent marks at i) (h : i < degree) where
+  module _ {marks : List ℕ} {at i : ℕ} (l : Listing s end count node degree first lent marks at i) (h : i < degree) where
     stops : (why : Refusal) → nextTold (readNeighbour count s end node first i at) ≡ Nexts.Refused why
         → Nexts.Refused why ≡ nextTold (several (readNeighbour count s end node first) degree 0 first)
     stops why e =
@@ -88,7 +88,7 @@ module _ (s : List ℕ) (end count node degree first lent : ℕ) where
     pub listing-past : end < at + 4 → Nexts.Refused PastTheEnd ≡ nextTold (several (readNeighbour count s end node first) degree 0 first)
     listing-past r = stops PastTheEnd (neighbour-past count s end node first i at r)
 
-    module _ (x : ℕ) (e : x ≡ num s at 4) (r : at + 4 ≤ end) where
+    module _ {x : ℕ} (e : x ≡ num s at 4) (r : at + 4 ≤ end) where
       pub listing-high : count ≤ x → Nexts.Refused WrongNeighbour ≡ nextTold (several (readNeighbour count s end node first) degree 0 first)
       listing-high a = stops WrongNeighbour (neighbour-high count s end node first i at r (subst (λ (y : ℕ). count ≤ y) e a))
 
@@ -124,6 +124,6 @@ module _ (s : List ℕ) (end count node degree first lent : ℕ) where
                 ∙ l .whole;
           }
 
-  pub listing-done : (marks : List ℕ) (at i : ℕ) → Listing s end count node degree first lent marks at i → degree ≤ i
+  pub listing-done : {marks : List ℕ} {at i : ℕ} → Listing s end count node degree first lent marks at i → degree ≤ i
       → Nexts.Next at ≡ nextTold (several (readNeighbour count s end node first) degree 0 first)
-  listing-done marks at i l h = sym (over (readNeighbour count s end node first) degree i at h) ∙ l .whole
+  listing-done {at = at} {i} l h = sym (over (readNeighbour count s end node first) degree i at h) ∙ l .whole

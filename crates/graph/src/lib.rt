@@ -14,7 +14,7 @@ ghost use Rattle.graph.specs.Layout.{firstNode, nodeLength, graphLength,
 ghost use Rattle.graph.specs.Cache.{numbersAt, linksAt, several, readNeighbour, readLevel, readNode, readNodes, headTest, roomTest, readHeader as headerOf, readBody, readGraph, readCache as cacheOf};
 ghost use Rattle.graph.specs.Decoded.{graphAt, heightAt, Laid, EntryIn};
 ghost use Rattle.graph.specs.Neighbours.{levelPart, levelAbove, neighbours as neighboursOf, partGiven, partOf};
-ghost use Rattle.graph.specs.Marks.{Under};
+ghost use Rattle.graph.specs.Marks.{Under, Walks};
 ghost use Rattle.graph.specs.Told.{entryTold, headerTold, nextTold, passTold, cacheTold, startsAfter, shownTold, partStart};
 use config::Config;
 use refusal::Checked;
@@ -260,11 +260,7 @@ fn check_level(
     at: usize,
     marks: &mut [u64],
 ) -> ReadNext
-    requires { ⌜ end ≤ length (now s) ⌝ }
-    requires { ⌜ at ≤ end ⌝ }
-    requires { ⌜ m ≤ maxM ⌝ }
-    requires { ⌜ count ≤ length (now marks) ⌝ }
-    requires { ⌜ Under (now marks) (at + 1) ⌝ }
+    requires { ⌜ Walks (now s) end m count (now marks) at ⌝ }
     ensures { λ r. ⌜ r ≡ nextTold (readLevel m count (now (s .entry)) end node level at) ⌝ }
     ensures { λ _. ⌜ Under (now (marks .exit)) (at + 5) ⌝ }
 {
@@ -288,11 +284,7 @@ fn check_levels(
     first: usize,
     marks: &mut [u64],
 ) -> ReadNext
-    requires { ⌜ end ≤ length (now s) ⌝ }
-    requires { ⌜ first ≤ end ⌝ }
-    requires { ⌜ m ≤ maxM ⌝ }
-    requires { ⌜ count ≤ length (now marks) ⌝ }
-    requires { ⌜ Under (now marks) (first + 1) ⌝ }
+    requires { ⌜ Walks (now s) end m count (now marks) first ⌝ }
     ensures { λ r. ⌜ r ≡ nextTold (several (readLevel m count (now (s .entry)) end node) levels 0 first) ⌝ }
     ensures { λ r. ⌜ ((next : ℕ) → r ≡ ReadNext.Next next → Under (now (marks .exit)) (next + 1)) ⌝ }
 {
@@ -321,11 +313,7 @@ fn check_node(
     at: usize,
     marks: &mut [u64],
 ) -> ReadNext
-    requires { ⌜ end ≤ length (now s) ⌝ }
-    requires { ⌜ at ≤ end ⌝ }
-    requires { ⌜ m ≤ maxM ⌝ }
-    requires { ⌜ count ≤ length (now marks) ⌝ }
-    requires { ⌜ Under (now marks) (at + 1) ⌝ }
+    requires { ⌜ Walks (now s) end m count (now marks) at ⌝ }
     ensures { λ r. ⌜ r ≡ nextTold (readNode m count (now (s .entry)) end node at) ⌝ }
     ensures { λ r. ⌜ ((next : ℕ) → r ≡ ReadNext.Next next → Under (now (marks .exit)) (next + 1)) ⌝ }
 {

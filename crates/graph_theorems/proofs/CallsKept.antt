@@ -14,4 +14,6 @@ cache-calls =
       neighbours-one-answer = λ cache starts count node level r s m n. (one-answer (m .start-is) (n .start-is), one-answer (m .bytes-are) (n .bytes-are));
       neighbours-number-contract = λ κs cache starts count node level r p. record { result-is = p };
       neighbours-number-one-answer = λ cache starts count node level r s m n. one-answer (m .result-is) (n .result-is);
+      neighbours-part-contract = λ κs cache starts count node level r p. record { result-is = p };
+      neighbours-part-one-answer = λ cache starts count node level r s m n. one-answer (m .result-is) (n .result-is);
     }

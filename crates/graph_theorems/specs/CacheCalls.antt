@@ -10,11 +10,13 @@ use Rattle.rows.specs.declared.Node.{Node}
 use Rattle.refusal.specs.Refusal.{numberTold}
 use Rattle.graph.specs.Cache.{readCache}
 use Rattle.graph.specs.Neighbours.{neighbours, partGiven, partOf}
-use Rattle.graph.specs.Told.{cacheTold, startsAfter, partStart}
+use Rattle.graph.specs.Told.{cacheTold, startsAfter, partStart, shownTold}
 use Rattle.graph.specs.declared.ReadCache.{ReadCache}
+use Rattle.graph.specs.declared.ShownLevel.{ShownLevel}
 use Rattle.graph.proofs.read_cache.Reads as ReadCacheCall
 use Rattle.graph.proofs.neighbours.Reads as NeighboursCall
 use Rattle.graph.proofs.neighbours_number.Reads as NeighboursNumberCall
+use Rattle.graph.proofs.neighbours_part.Reads as NeighboursPartCall
 
 -- read_cache(bytes, config, crc, sequence, count, starts): the answer, and the starts after
 pub record ReadCacheMeets (bytes : List ℕ) (config : Config) (crc sequence count : ℕ) (starts : List ℕ) (r : ReadCache) (starts' : List ℕ) : Type 0 where
@@ -29,6 +31,10 @@ pub record NeighboursMeets (cache : RefT (List ℕ)) (starts : List ℕ) (count 
 -- neighbours_number(cache, starts, count, node, level)
 pub record NeighboursNumberMeets (cache starts : List ℕ) (count : ℕ) (node : Node) (level r : ℕ) : Type 0 where
   pub result-is : r ≡ numberTold (neighbours cache starts count (node .0) level)
+
+-- neighbours_part(cache, starts, count, node, level)
+pub record NeighboursPartMeets (cache starts : List ℕ) (count : ℕ) (node : Node) (level : ℕ) (r : ShownLevel) : Type 0 where
+  pub result-is : r ≡ shownTold (neighbours cache starts count (node .0) level)
 
 pub record CacheCalls : Type 0 where
   pub read-cache-contract : (κs : _) (bytes : RefT (List ℕ)) (config : Config) (crc sequence count : ℕ) (starts : RefT (List ℕ)) (r : ReadCache) (starts' : RefT (List ℕ))
@@ -47,3 +53,8 @@ pub record CacheCalls : Type 0 where
       → NeighboursNumberMeets (now cache) (now starts) count node level r
   pub neighbours-number-one-answer : (cache starts : List ℕ) (count : ℕ) (node : Node) (level r r' : ℕ)
       → NeighboursNumberMeets cache starts count node level r → NeighboursNumberMeets cache starts count node level r' → r ≡ r'
+  pub neighbours-part-contract : (κs : _) (cache starts : RefT (List ℕ)) (count : ℕ) (node : Node) (level : ℕ) (r : ShownLevel)
+      → NeighboursPartCall.Learnt κs (cache, (starts, (count, (node, (level, tt))))) r (cache, (starts, (count, (node, (level, tt)))))
+      → NeighboursPartMeets (now cache) (now starts) count node level r
+  pub neighbours-part-one-answer : (cache starts : List ℕ) (count : ℕ) (node : Node) (level : ℕ) (r r' : ShownLevel)
+      → NeighboursPartMeets cache starts count node level r → NeighboursPartMeets cache starts count node level r' → r ≡ r'

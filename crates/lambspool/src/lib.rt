@@ -8,7 +8,6 @@ ghost use lib.ListN.{length};
 ghost use Rattle.crc32.specs.Crc.{allOnes, bytesIn, crcOf};
 ghost use Rattle.refusal.specs.Refusal.{writtenTold};
 ghost use Rattle.layout.specs.declared.Extent.the-variants.{Full, Compacted};
-ghost use Rattle.layout.specs.declared.Shape.the-variants as Shape;
 ghost use Rattle.sources.specs.declared.Shown.the-variants.{Caption, Vector};
 ghost use Rattle.meaning.specs.Calls.{readCall, readTables, recoverCall, recoverTables, outputAfter};
 ghost use Rattle.meaning.specs.Views.{lookup as lookupOf, view as viewOf};
@@ -27,6 +26,8 @@ use config::ReadMetric;
 use graph::Entry;
 use graph::ReadCache;
 use graph::ShownLevel;
+use layout::Extent;
+use layout::Shape;
 use listing_text::Heading;
 use recovery::Recovery;
 use refusal::Refusal;
@@ -43,6 +44,9 @@ enum ReadSettings {
     Known(Config),
     Refused(Refusal),
 }
+
+// What a caller asks of a writer or an encoder in numbers: d, M, ef, the seed, the metric and the sequence.
+struct Asked(usize, usize, usize, u64, u32, u64);
 
 // A snapshot that was read.
 #[repr(C)]
@@ -482,6 +486,59 @@ fn bytes_said(answer: Written) -> Bytes
     }
 }
 
+// Both writers, with the settings asked: 5 where the metric's number is none, before all else.
+fn write_asked<'a>(
+    extent: Extent,
+    asked: Asked,
+    rows: &[u64],
+    count: usize,
+    snapshot: &'a [u8],
+    log: &'a [u8],
+    out: &mut [u8],
+) -> Written
+    ensures { λ r. ⌜ r ≡ writtenTold (writeAsked extent (asked .0) (asked .1) (asked .2) (asked .3) (asked .4) (asked .5) (now (rows .entry)) count (now (snapshot .entry)) (now (log .entry)) (now (out .entry))) ⌝ }
+    ensures { λ _. ⌜ now (out .exit) ≡ outputAfter (now (out .entry)) (writeAsked extent (asked .0) (asked .1) (asked .2) (asked .3) (asked .4) (asked .5) (now (rows .entry)) count (now (snapshot .entry)) (now (log .entry)) (now (out .entry))) ⌝ }
+{
+    let sequence = asked.5;
+    let config = match settings(asked.0, asked.1, asked.2, asked.3, asked.4) {
+        ReadSettings::Known(config) => config,
+        ReadSettings::Refused(why) => return Written::Refused(why),
+    };
+    match extent {
+        Extent::Full => writer::write_snapshot(config, sequence, rows, count, snapshot, log, out),
+        Extent::Compacted => {
+            writer::write_compacted_snapshot(config, sequence, rows, count, snapshot, log, out)
+        }
+    }
+}
+
+// Both encoders, as `write_asked`.
+fn encode_asked(
+    shape: Shape,
+    asked: Asked,
+    operations: &[u64],
+    coordinates: &[u32],
+    captions: &[u8],
+    out: &mut [u8],
+) -> Written
+    ensures { λ r. ⌜ r ≡ writtenTold (encodeAsked shape (asked .0) (asked .1) (asked .2) (asked .3) (asked .4) (asked .5) (now (operations .entry)) (now (coordinates .entry)) (now (captions .entry)) (now (out .entry))) ⌝ }
+    ensures { λ _. ⌜ now (out .exit) ≡ outputAfter (now (out .entry)) (encodeAsked shape (asked .0) (asked .1) (asked .2) (asked .3) (asked .4) (asked .5) (now (operations .entry)) (now (coordinates .entry)) (now (captions .entry)) (now (out .entry))) ⌝ }
+{
+    let sequence = asked.5;
+    let config = match settings(asked.0, asked.1, asked.2, asked.3, asked.4) {
+        ReadSettings::Known(config) => config,
+        ReadSettings::Refused(why) => return Written::Refused(why),
+    };
+    match shape {
+        Shape::Single => {
+            encoder::encode_frame(config, sequence, operations, coordinates, captions, out)
+        }
+        Shape::Batch => {
+            encoder::encode_batch(config, sequence, operations, coordinates, captions, out)
+        }
+    }
+}
+
 #[no_mangle]
 pub extern "C" fn lambspool_write_snapshot<'a>(
     d: usize,
@@ -499,12 +556,8 @@ pub extern "C" fn lambspool_write_snapshot<'a>(
     ensures { λ r. ⌜ r ≡ bytesSaid (writtenTold (writeAsked Full d m ef seed metric sequence (now (rows .entry)) count (now (snapshot .entry)) (now (log .entry)) (now (out .entry)))) ⌝ }
     ensures { λ _. ⌜ now (out .exit) ≡ outputAfter (now (out .entry)) (writeAsked Full d m ef seed metric sequence (now (rows .entry)) count (now (snapshot .entry)) (now (log .entry)) (now (out .entry))) ⌝ }
 {
-    match settings(d, m, ef, seed, metric) {
-        ReadSettings::Known(config) => {
-            bytes_said(writer::write_snapshot(config, sequence, rows, count, snapshot, log, out))
-        }
-        ReadSettings::Refused(why) => bytes_said(Written::Refused(why)),
-    }
+    let asked = Asked(d, m, ef, seed, metric, sequence);
+    bytes_said(write_asked(Extent::Full, asked, rows, count, snapshot, log, out))
 }
 
 #[no_mangle]
@@ -524,20 +577,8 @@ pub extern "C" fn lambspool_write_compacted_snapshot<'a>(
     ensures { λ r. ⌜ r ≡ bytesSaid (writtenTold (writeAsked Compacted d m ef seed metric sequence (now (rows .entry)) count (now (snapshot .entry)) (now (log .entry)) (now (out .entry)))) ⌝ }
     ensures { λ _. ⌜ now (out .exit) ≡ outputAfter (now (out .entry)) (writeAsked Compacted d m ef seed metric sequence (now (rows .entry)) count (now (snapshot .entry)) (now (log .entry)) (now (out .entry))) ⌝ }
 {
-    match settings(d, m, ef, seed, metric) {
-        ReadSettings::Known(config) => {
-            bytes_said(writer::write_compacted_snapshot(
-                config,
-                sequence,
-                rows,
-                count,
-                snapshot,
-                log,
-                out,
-            ))
-        }
-        ReadSettings::Refused(why) => bytes_said(Written::Refused(why)),
-    }
+    let asked = Asked(d, m, ef, seed, metric, sequence);
+    bytes_said(write_asked(Extent::Compacted, asked, rows, count, snapshot, log, out))
 }
 
 #[no_mangle]
@@ -556,19 +597,8 @@ pub extern "C" fn lambspool_encode_frame(
     ensures { λ r. ⌜ r ≡ bytesSaid (writtenTold (encodeAsked Shape.Single d m ef seed metric sequence (now (operations .entry)) (now (coordinates .entry)) (now (captions .entry)) (now (out .entry)))) ⌝ }
     ensures { λ _. ⌜ now (out .exit) ≡ outputAfter (now (out .entry)) (encodeAsked Shape.Single d m ef seed metric sequence (now (operations .entry)) (now (coordinates .entry)) (now (captions .entry)) (now (out .entry))) ⌝ }
 {
-    match settings(d, m, ef, seed, metric) {
-        ReadSettings::Known(config) => {
-            bytes_said(encoder::encode_frame(
-                config,
-                sequence,
-                operations,
-                coordinates,
-                captions,
-                out,
-            ))
-        }
-        ReadSettings::Refused(why) => bytes_said(Written::Refused(why)),
-    }
+    let asked = Asked(d, m, ef, seed, metric, sequence);
+    bytes_said(encode_asked(Shape::Single, asked, operations, coordinates, captions, out))
 }
 
 #[no_mangle]
@@ -587,19 +617,8 @@ pub extern "C" fn lambspool_encode_batch(
     ensures { λ r. ⌜ r ≡ bytesSaid (writtenTold (encodeAsked Shape.Batch d m ef seed metric sequence (now (operations .entry)) (now (coordinates .entry)) (now (captions .entry)) (now (out .entry)))) ⌝ }
     ensures { λ _. ⌜ now (out .exit) ≡ outputAfter (now (out .entry)) (encodeAsked Shape.Batch d m ef seed metric sequence (now (operations .entry)) (now (coordinates .entry)) (now (captions .entry)) (now (out .entry))) ⌝ }
 {
-    match settings(d, m, ef, seed, metric) {
-        ReadSettings::Known(config) => {
-            bytes_said(encoder::encode_batch(
-                config,
-                sequence,
-                operations,
-                coordinates,
-                captions,
-                out,
-            ))
-        }
-        ReadSettings::Refused(why) => bytes_said(Written::Refused(why)),
-    }
+    let asked = Asked(d, m, ef, seed, metric, sequence);
+    bytes_said(encode_asked(Shape::Batch, asked, operations, coordinates, captions, out))
 }
 
 // ---- the lines of a listing

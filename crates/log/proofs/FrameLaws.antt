@@ -1,24 +1,24 @@
 -- The ways out of a payload's decoding, and how many operations stand in it.
-use Prim.Native.Nat.{ℕ, suc, _+_, _-_, _/_, _<_}
+use Prim.Native.Nat.{ℕ, _+_, _-_, _<_}
 use native.Mathlib.Omega.{arith}
-use mathlib.Core.Path.{_≡_, refl, sym, ap, subst, _∙_}
+use mathlib.Core.Path.{_≡_, refl, sym, ap, _∙_}
 use mathlib.Core.Bool.{Bool, true, false, not}
 use mathlib.Core.List.{List, [], _∷_}
 use borrow.Author.Tests.{eq-eqb, ne-eqb, eqb-true, eqb-false}
-use lib.Dec.{ltb, eqb}
+use lib.Dec.{eqb}
 use lib.ListN.{length}
 use Rattle.refusal.specs.Refusal.{Result, answer, refused, _>>=_}
 use Rattle.refusal.specs.declared.Refusal.{Refusal}
-use Rattle.refusal.specs.declared.Refusal.the-variants.{WrongPayloadCrc, WrongSequence, BytesLeftOver, WrongBatchCount}
+use Rattle.refusal.specs.declared.Refusal.the-variants.{WrongPayloadCrc, WrongSequence, BytesLeftOver}
 use Rattle.refusal.specs.declared.Measured.the-variants as Measures
-use Rattle.refusal.proofs.Results.{stop, pass, go-on, give-up, passed, went, answer-injective, sized-is, sized-not}
-use Rattle.config.specs.Limits.{maxBatchOperations}
+use Rattle.refusal.proofs.Results.{stop, pass, go-on, give-up, sized-is, sized-not}
 use Rattle.config.specs.declared.Config.{Config}
 use Rattle.layout.specs.Layout.{frameLength}
 use Rattle.layout.specs.declared.Shape.{Shape}
 use Rattle.layout.specs.declared.Shape.the-variants.{Single, Batch}
 use Rattle.fields.specs.Fields.{num}
-use Rattle.meaning.specs.Log.{ReadOperation, ReadOperations, operationAt, operationsAt, batchAt, singleAt, outOfOrder, shapeOf, operationsOf, payloadCrcHolds, decodedAt, payloadAt, frameRead}
+use Rattle.meaning.specs.Log.{ReadOperation, ReadOperations, operationAt, singleAt, outOfOrder, shapeOf, operationsOf, payloadCrcHolds, decodedAt, payloadAt, frameRead}
+use Rattle.meaning.proofs.OperationRead.{batch-read, single-read}
 use Rattle.log.specs.declared.ReadFrame.the-variants as Frames
 use Rattle.log.specs.Told.{nextTold, nextsTold, operationCount, frameTold}
 use Rattle.log.proofs.OperationLaws.{as-many}
@@ -42,16 +42,8 @@ module _ (c : Config) (log : List ℕ) (end opcode at : ℕ) where
       go (refused why) = refl
 
   pub body-count : (shape : Shape) (x : ReadOperations) → operationsOf shape c log end opcode at ≡ answer x → length (x .operations) ≡ operationCount shape log at
-  unfolding singleAt batchAt
-  body-count Single x e =
-      let s = passed (operationAt c log end opcode at) _ x e in
-      ap (λ (y : ReadOperations). length (y .operations)) (sym (answer-injective _ x (s .then)))
-  body-count Batch x e =
-      let n = num log at 4 in
-      let s1 = went WrongBatchCount (ltb n 1) _ x e in
-      let s2 = went WrongBatchCount (ltb maxBatchOperations n) _ x (s1 .then) in
-      let s3 = went WrongBatchCount (ltb ((end - (at + 4)) / 9) n) _ x (s2 .then) in
-      as-many c log end n (at + 4) x (s3 .then)
+  body-count Single x e = ap (λ (y : ReadOperations). length (y .operations)) (single-read c log end opcode at x e .all-is)
+  body-count Batch x e = as-many c log end (num log at 4) (at + 4) x (batch-read c log end at x e .operations-here)
 
 -- ---- the ways out
 module _ (c : Config) (log : List ℕ) (previous at n : ℕ) where

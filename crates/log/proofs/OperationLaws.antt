@@ -3,26 +3,24 @@
 use Prim.Native.Nat.{ℕ, zero, suc, _+_, _*_, _-_, _≤_, _<_}
 use native.Mathlib.Omega.{arith}
 use mathlib.Core.Path.{_≡_, refl, sym, ap, subst, _∙_}
-use mathlib.Core.Bool.{Bool, true, false, cond}
 use mathlib.Core.List.{List, [], _∷_}
-use borrow.Author.Tests.{lt-ltb, le-ltb, ltb-false, eq-eqb, ne-eqb}
-use lib.Dec.{ltb, eqb}
+use borrow.Author.Tests.{lt-ltb, le-ltb}
+use lib.Dec.{ltb}
 use lib.ListN.{length}
 use Rattle.refusal.specs.Refusal.{Result, answer, refused, _>>=_, refuse}
-use Rattle.refusal.specs.declared.Refusal.the-variants.{PastTheEnd, UnknownOperation}
+use Rattle.refusal.specs.declared.Refusal.the-variants.{PastTheEnd}
 use Rattle.refusal.specs.declared.Measured.{Measured}
 use Rattle.refusal.specs.declared.Measured.the-variants as Measures
-use Rattle.refusal.proofs.Results.{stop, pass, passed, went, answer-injective, refused-no-answer}
+use Rattle.refusal.proofs.Results.{stop, pass}
 use Rattle.config.specs.Settings.{captionLimit}
 use Rattle.config.specs.declared.Config.{Config}
 use Rattle.layout.specs.Layout.{itemLength}
 use Rattle.rows.specs.declared.Row.{Row}
 use Rattle.fields.specs.Fields.{num}
-use Rattle.meaning.specs.Item.{itemAt}
 use Rattle.meaning.specs.Replay.{Operation, put, remove}
 use Rattle.meaning.specs.Log as Meant
 use Rattle.meaning.specs.Log.{putRow, operationAt, operationsAt}
-use Rattle.items.proofs.ItemLaws.{item-within, caption-said}
+use Rattle.meaning.proofs.OperationRead.{OperationHere, putHere, removeHere, operation-read, operations-none, operations-read}
 use Rattle.log.specs.declared.ReadOperation.{ReadOperation}
 use Rattle.log.specs.declared.ReadOperation.the-variants as Operations
 use Rattle.log.specs.Told.{operationThen, operationTold, nextTold, nextsTold}
@@ -43,24 +41,11 @@ end-told (refused why) = refl
 
 -- ---- an operation that is accepted ends before `end`
 pub operation-within : (c : Config) (log : List ℕ) (end tag at : ℕ) (x : Meant.ReadOperation) → operationAt c log end tag at ≡ answer x → x .next ≤ end
-unfolding operationAt
-operation-within c log end tag at x e =
-    let s = went PastTheEnd (ltb end (at + 8)) _ x e in
-    tagged (eqb tag 1) (eqb tag 2) (ltb-false _ _ (s .test-false)) (s .then)
+operation-within c log end tag at x e = go (operation-read c log end tag at x e)
   where
-    removes : at + 8 ≤ end → answer (record { operation = remove (num log at 8); next = at + 8 }) ≡ answer x → x .next ≤ end
-    removes h g = subst (λ (y : Meant.ReadOperation). y .next ≤ end) (answer-injective _ x g) h
-
-    tagged : (one two : Bool) → at + 8 ≤ end
-        → cond one (itemAt PastTheEnd c log end (at + 8) >>= λ n. answer (putRow c log at n))
-        (cond two (answer (record { operation = remove (num log at 8); next = at + 8 })) (refused UnknownOperation)) ≡ answer x
-        → x .next ≤ end
-    tagged true two h g =
-        let s = passed (itemAt PastTheEnd c log end (at + 8)) _ x g in
-        let w = item-within PastTheEnd c log end (at + 8) (s .value) (s .first) .inside in
-        subst (λ (y : Meant.ReadOperation). y .next ≤ end) (answer-injective _ x (s .then)) (omega arith)
-    tagged false true h g = removes h g
-    tagged false false h g = absurd (refused-no-answer UnknownOperation x g)
+    go : OperationHere c log end tag at x → x .next ≤ end
+    go (putHere n t h i is) = let inside = i .inside in subst (λ (y : Meant.ReadOperation). y .next ≤ end) (sym is) (omega arith)
+    go (removeHere t h is) = subst (λ (y : Meant.ReadOperation). y .next ≤ end) (sym is) h
 
 abbrev lengthOf : Measured → ℕ
 lengthOf (Measures.Length n) = n
@@ -81,36 +66,26 @@ pub record PutStored (c : Config) (log : List ℕ) (end at n : ℕ) (x : Meant.R
   pub is : x ≡ putRow c log at n
 
 module _ (c : Config) (log : List ℕ) (end tag at : ℕ) (x : Meant.ReadOperation) (e : operationAt c log end tag at ≡ answer x) where
-  abbrev puts : Result Meant.ReadOperation
-  puts = itemAt PastTheEnd c log end (at + 8) >>= (λ n. answer (putRow c log at n))
-
-  abbrev removes : Meant.ReadOperation
-  removes = record { operation = remove (num log at 8); next = at + 8 }
-
   pub stored-id : at + 8 ≤ end
-  unfolding operationAt
-  stored-id = ltb-false _ _ (went PastTheEnd (ltb end (at + 8)) _ x e .test-false)
-
-  -- 1 or 2
-  stored-tagged : cond (eqb tag 1) puts (cond (eqb tag 2) (answer removes) (refused UnknownOperation)) ≡ answer x
-  unfolding operationAt
-  stored-tagged = went PastTheEnd (ltb end (at + 8)) _ x e .then
+  stored-id = go (operation-read c log end tag at x e)
+    where
+      go : OperationHere c log end tag at x → at + 8 ≤ end
+      go (putHere n t h i is) = h
+      go (removeHere t h is) = h
 
   pub stored-put : tag ≡ 1 → PutStored c log end at (num log (at + 8 + 4 * c .dimensions) 4) x
-  stored-put t =
-      let g : puts ≡ answer x = sym (ap (λ (b : Bool). cond b puts (cond (eqb tag 2) (answer removes) (refused UnknownOperation))) (eq-eqb tag 1 t)) ∙ stored-tagged in
-      let s = passed (itemAt PastTheEnd c log end (at + 8)) _ x g in
-      let w = item-within PastTheEnd c log end (at + 8) (s .value) (s .first) in
-      subst (λ (n : ℕ). PutStored c log end at n x) (sym (caption-said PastTheEnd c log end (at + 8) (s .value) (s .first)))
-      (record { inside = w .inside; few = w .few; is = sym (answer-injective _ x (s .then)) })
-
-  pub stored-remove : (tag ≡ 1 → ⊥) → x ≡ removes
-  stored-remove t =
-      go (eqb tag 2) (sym (ap (λ (b : Bool). cond b puts (cond (eqb tag 2) (answer removes) (refused UnknownOperation))) (ne-eqb tag 1 t)) ∙ stored-tagged)
+  stored-put one = go (operation-read c log end tag at x e)
     where
-      go : (two : Bool) → cond two (answer removes) (refused UnknownOperation) ≡ answer x → x ≡ removes
-      go true g = sym (answer-injective _ x g)
-      go false g = absurd (refused-no-answer UnknownOperation x g)
+      go : OperationHere c log end tag at x → PutStored c log end at (num log (at + 8 + 4 * c .dimensions) 4) x
+      go (putHere n t h i is) = subst (λ (k : ℕ). PutStored c log end at k x) (i .caption-is) (record { inside = i .inside; few = i .short; is = is })
+      go (removeHere t h is) = absurd (omega arith)
+
+  pub stored-remove : (tag ≡ 1 → ⊥) → x ≡ record { operation = remove (num log at 8); next = at + 8 }
+  stored-remove other = go (operation-read c log end tag at x e)
+    where
+      go : OperationHere c log end tag at x → x ≡ record { operation = remove (num log at 8); next = at + 8 }
+      go (putHere n t h i is) = absurd (other t)
+      go (removeHere t h is) = is
 
 -- ---- operations one by one
 -- what follows one that is accepted
@@ -163,11 +138,7 @@ module _ (c : Config) (log : List ℕ) (end : ℕ) where
       go (refused why) = refl
 
   pub as-many : (n at : ℕ) (x : Meant.ReadOperations) → operationsAt n c log end at ≡ answer x → length (x .operations) ≡ n
-  unfolding operationsAt
-  as-many zero at x e = ap (λ (y : Meant.ReadOperations). length (y .operations)) (sym (answer-injective _ x e))
+  as-many zero at x e = ap (λ (y : Meant.ReadOperations). length (y .operations)) (operations-none c log end at x e)
   as-many (suc n) at x e =
-      let s0 = went PastTheEnd (ltb end (at + 1)) _ x e in
-      let s1 = passed (operationAt c log end (num log at 1) (at + 1)) _ x (s0 .then) in
-      let s2 = passed (operationsAt n c log end (s1 .value .next)) _ x (s1 .then) in
-      ap (λ (y : Meant.ReadOperations). length (y .operations)) (sym (answer-injective _ x (s2 .then)))
-      ∙ ap suc (as-many n (s1 .value .next) (s2 .value) (s2 .first))
+      let s = operations-read n c log end at x e in
+      ap (λ (y : Meant.ReadOperations). length (y .operations)) (s .all-is) ∙ ap suc (as-many n (s .this .next) (s .rest) (s .rest-read))

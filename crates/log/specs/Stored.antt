@@ -8,7 +8,7 @@ use Rattle.rows.specs.declared.Row.{Row}
 use Rattle.meaning.specs.Log.{ReadOperation, ReadOperations, frameAt, found}
 use Rattle.meaning.specs.Replay as Replays
 use Rattle.log.specs.declared.Frame.{Frame}
-use Rattle.log.specs.Told.{frameOf}
+use Rattle.log.specs.Told.{frameFound}
 
 pub record Stored (x : Result ReadOperation) : Type 0 where
   pub value : ReadOperation
@@ -22,7 +22,7 @@ pub record StoredAll (x : Result ReadOperations) : Type 0 where
 pub record IsFrame (c : Config) (log : List ℕ) (frame : Frame) (f : Replays.Frame Row) : Type 0 where
   pub previous : ℕ
   pub there : frameAt c log previous (frame .start) ≡ found f (frame .next)
-  pub told : frame ≡ frameOf f (frame .next)
+  pub told : frame ≡ frameFound f (frame .next)
 
 -- some frame was
 pub record FrameThere (c : Config) (log : List ℕ) (frame : Frame) : Type 0 where

@@ -40,11 +40,12 @@ abbrev pub operationCount : Shape → List ℕ → ℕ → ℕ
 operationCount Single log at = 1
 operationCount Batch log at = num log at 4
 
-abbrev pub frameOf : Replays.Frame Row → ℕ → Frame
-frameOf f next =
+-- a frame that is found, and where the next begins
+abbrev pub frameFound : Replays.Frame Row → ℕ → Frame
+frameFound f next =
     record { start = f .start; sequence = f .sequence; shape = f .shape; operations = length (f .operations); next = next }
 
 abbrev pub frameTold : Meant.ReadFrame → ReadFrame
 frameTold Meant.tooLittle = Frames.TooLittle
 frameTold (Meant.wrong why) = Frames.Refused why
-frameTold (Meant.found f next) = Frames.Whole (frameOf f next)
+frameTold (Meant.found f next) = Frames.Whole (frameFound f next)

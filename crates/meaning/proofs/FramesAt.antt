@@ -8,14 +8,10 @@ use Rattle.config.specs.declared.Config.{Config}
 use Rattle.refusal.specs.declared.Refusal.{Refusal}
 use Rattle.meaning.specs.Replay.{Frame, tail, bad, Frames, End}
 use Rattle.rows.specs.declared.Row.{Row}
-use Rattle.meaning.specs.Log.{ReadFrame, tooLittle, wrong, found, frameAt, join, goOn, framesFrom, framesOf}
+use Rattle.meaning.specs.Log.{ReadFrame, tooLittle, wrong, found, frameAt, join, goOn, framesFrom, framesAt, framesOf}
 use Rattle.meaning.proofs.FrameRead.{frame-bounds, frame-too-little, frame-wrong-inside}
 
 -- ---- one turn of the reader
--- the frames from `at` on; as many turns as the log has bytes are enough at every byte
-unfoldable pub framesAt : Config → List ℕ → ℕ → ℕ → Frames Row
-framesAt c log previous at = framesFrom (length log) c log previous at
-
 pub enough : (n k : ℕ) (c : Config) (log : List ℕ) (previous at : ℕ) → length log ≤ n + at → length log ≤ k + at
     → framesFrom n c log previous at ≡ framesFrom k c log previous at
 unfolding framesFrom

@@ -1,7 +1,14 @@
+pub mod EveryLaws
 pub mod TableSteps
 pub mod RowWords
+pub mod ItemRead
+pub mod HeaderRead
+pub mod SnapshotRead
+pub mod OperationRead
 pub mod FrameRead
 pub mod FramesAt
+pub mod RecoverBegins
 pub mod LiveOnceLaws
 pub mod Marking
+pub mod OperationEncoded
 pub mod Lengths

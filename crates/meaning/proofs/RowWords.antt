@@ -12,10 +12,6 @@ use Rattle.rows.specs.declared.Row.{Row}
 use Rattle.meaning.specs.Tables.{rowWords, rowsFrom, rowsIn}
 use Rattle.meaning.specs.Every.{Every}
 
--- a row whose length and offset keep to their widths
-abbrev pub Packs : Row → Type 0
-Packs r = RowFits r
-
 pub length-rowWords : (rows : List Row) → length (rowWords rows) ≡ 2 * length rows
 unfolding rowWords
 length-rowWords [] = refl
@@ -27,7 +23,7 @@ at-place front rest m n k e p =
     ap (λ (i : ℕ). getD (front ++ rest) i 0) (p ∙ ap (λ (i : ℕ). i + n) (sym e)) ∙ getD-append-add front rest n 0
 
 -- the row back from its two words
-row-read : (front rest : List ℕ) (k : ℕ) (r : Row) → length front ≡ 2 * k → Packs r
+row-read : (front rest : List ℕ) (k : ℕ) (r : Row) → length front ≡ 2 * k → RowFits r
     → rowAt (front ++ (r .id .0 ∷ rowWord r ∷ rest)) k ≡ r
 unfolding rowAt
 row-read front rest k r e p =
@@ -37,7 +33,7 @@ row-read front rest k r e p =
     ap₂ rowOf a b ∙ row-of-word r p
 
 -- the rows back from a table that has their words behind a front
-pub rows-read : (front : List ℕ) (rows : List Row) (rest : List ℕ) (k : ℕ) → length front ≡ 2 * k → Every Packs rows
+pub rows-read : (front : List ℕ) (rows : List Row) (rest : List ℕ) (k : ℕ) → length front ≡ 2 * k → Every RowFits rows
     → rowsFrom (length rows) k (front ++ (rowWords rows ++ rest)) ≡ rows
 unfolding rowWords rowsFrom
 rows-read front [] rest k e all = refl
@@ -86,5 +82,5 @@ set-row-next done r o i n h =
     ∙ ap (λ (l : List ℕ). l ++ drop (2 * (i + 1)) o) (sym (rowWords-snoc done r))
 
 -- ---- the rows back from a table that begins with their words
-pub rows-of-words : (rows : List Row) (rest : List ℕ) → Every Packs rows → rowsIn (length rows) (rowWords rows ++ rest) ≡ rows
+pub rows-of-words : (rows : List Row) (rest : List ℕ) → Every RowFits rows → rowsIn (length rows) (rowWords rows ++ rest) ≡ rows
 rows-of-words rows rest all = rows-read [] rows rest 0 refl all

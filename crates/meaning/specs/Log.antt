@@ -3,7 +3,7 @@ use Prim.Native.Nat.{ℕ, zero, suc, _+_, _*_, _-_, _/_}
 use mathlib.Core.Bool.{Bool, true, false, not, cond}
 use mathlib.Core.List.{List, [], _∷_}
 use lib.ListN.{length}
-use lib.Dec.{ltb, leb, eqb}
+use lib.Dec.{ltb, eqb}
 use Rattle.crc32.specs.Crc.{crcOf}
 use Rattle.fields.specs.Fields.{part, num}
 use Rattle.config.specs.Limits.{minFrame, maxFrame, maxBatchOperations}
@@ -11,8 +11,8 @@ use Rattle.config.specs.declared.Config.{Config}
 use Rattle.refusal.specs.Refusal.{Result, answer, refused, _>>=_, refuse}
 use Rattle.refusal.specs.declared.Refusal.{Refusal}
 use Rattle.refusal.specs.declared.Refusal.the-variants.{PastTheEnd, BytesLeftOver, WrongLengthCrc, WrongLength, WrongPayloadCrc, WrongSequence, WrongBatchCount, UnknownOperation}
-use Rattle.meaning.specs.Replay.{Operation, put, remove, Frame, End, tail, bad, Frames}
-use Rattle.layout.specs.Layout.{frameHead, frameLength, itemLength}
+use Rattle.meaning.specs.Replay.{Operation, put, remove, Frame, tail, bad, Frames}
+use Rattle.layout.specs.Layout.{frameHead, frameLength}
 use Rattle.layout.specs.declared.Shape.{Shape}
 use Rattle.layout.specs.declared.Shape.the-variants.{Single, Batch}
 use Rattle.rows.specs.declared.Row.{Row}
@@ -146,6 +146,10 @@ goOn more at (found f next) = join f (more (f .sequence) next)
 unfoldable pub framesFrom : ℕ → Config → List ℕ → ℕ → ℕ → Frames Row
 framesFrom zero c log previous at = record { frames = []; ended = tail at }
 framesFrom (suc n) c log previous at = goOn (framesFrom n c log) at (frameAt c log previous at)
+
+-- all of them: as many turns as the log has bytes are enough at every byte
+unfoldable pub framesAt : Config → List ℕ → ℕ → ℕ → Frames Row
+framesAt c log previous at = framesFrom (length log) c log previous at
 
 unfoldable pub framesOf : Config → List ℕ → Frames Row
 framesOf c log = framesFrom (length log) c log 0 0

@@ -29,7 +29,7 @@ of64 bytes at = by-room number64 (F64.Value (num bytes at 8) (at + 8)) F64.Past 
 pub field-numbers : FieldNumbers
 field-numbers =
     record {
-      read-u8-number = λ bytes at r m. ap number8 (m .result-is) ∙ of8 bytes at;
-      read-u32-number = λ bytes at r m. ap number32 (m .result-is) ∙ of32 bytes at;
-      read-u64-number = λ bytes at r m. ap number64 (m .result-is) ∙ of64 bytes at;
+      read-u8-number = λ bytes at r m. ap number8 m ∙ of8 bytes at;
+      read-u32-number = λ bytes at r m. ap number32 m ∙ of32 bytes at;
+      read-u64-number = λ bytes at r m. ap number64 m ∙ of64 bytes at;
     }

@@ -1,12 +1,11 @@
 -- What `specs/Store.antt` says of the store's calls.
 use Rattle.promises.specs.Store.{SnapshotCalls, ViewsCalls, WriterCalls, EncoderCalls, LogCalls}
-use Rattle.promises.proofs.OneAnswers.{one-answer}
+use Rattle.promises.proofs.OneAnswers.{one-answer, exact}
 
 pub snapshot-calls : SnapshotCalls
 snapshot-calls =
     record {
-      read-header-contract = λ κs bytes r p. record { result-is = p };
-      read-header-one-answer = λ bytes r s m n. one-answer (m .result-is) (n .result-is);
+      read-header-one-answer = λ κs bytes. exact;
       read-snapshot-contract = λ κs bytes rows active r rows' active' p. record { result-is = p .0; rows-are = p .1 .0; active-is = p .1 .1 };
       read-snapshot-one-answer = λ bytes rows active r s x y z w m n. (one-answer (m .result-is) (n .result-is), one-answer (m .rows-are) (n .rows-are), one-answer (m .active-is) (n .active-is));
     }
@@ -16,10 +15,9 @@ views-calls =
     record {
       lookup-contract = λ κs rows count id r p. record { result-is = p };
       lookup-one-answer = λ rows count id r s m n. one-answer (m .result-is) (n .result-is);
-      caption-number-contract = λ κs snapshot log rows count node d r p. record { result-is = p };
-      caption-number-one-answer = λ snapshot log rows count node d r s m n. one-answer (m .result-is) (n .result-is);
-      vector-number-contract = λ κs snapshot log rows count node d r p. record { result-is = p };
-      vector-number-one-answer = λ snapshot log rows count node d r s m n. one-answer (m .result-is) (n .result-is);
+      view-one-answer = λ κs shown snapshot log rows count node d. exact;
+      caption-number-one-answer = λ κs snapshot log rows count node d. exact;
+      vector-number-one-answer = λ κs snapshot log rows count node d. exact;
       caption-view-contract = λ κs snapshot log rows count node d r p. record { bytes-are = p .0; start-is = p .1 };
       caption-view-one-answer = λ snapshot log rows count node d r s m n. (one-answer (m .start-is) (n .start-is), one-answer (m .bytes-are) (n .bytes-are));
       vector-view-contract = λ κs snapshot log rows count node d r p. record { bytes-are = p .0; start-is = p .1 };
@@ -47,6 +45,5 @@ encoder-calls =
 pub log-calls : LogCalls
 log-calls =
     record {
-      frame-at-contract = λ κs config log previous at r p. record { result-is = p };
-      frame-at-one-answer = λ config log previous at r s m n. one-answer (m .result-is) (n .result-is);
+      frame-at-one-answer = λ κs config log previous at. exact;
     }

@@ -1,6 +1,4 @@
--- The C entries of the crate `lambspool`. Of each call: `…Meets` is what its contract says of a result and of what was lent, in the
--- contract's own words; `…-contract`: what a caller learns from the contract in the source is this; `…-one-answer`: nothing is left to
--- choose. `Said` has the number and the values of each answer.
+-- The C entries of the crate `lambspool`, each told as `OneAnswer` says. `Said` has the number and the values of each answer.
 use Prim.Native.Nat.{ℕ}
 use mathlib.Core.Path.{_≡_}
 use mathlib.Core.List.{List}
@@ -25,10 +23,7 @@ use Rattle.lambspool.specs.Lines.{heading, refusalText}
 use Rattle.lambspool.specs.Said.{snapshotSaid, storeSaid, foundSaid, partSaid, cacheSaid, neighboursSaid, bytesSaid}
 use Rattle.lambspool.specs.declared.Snapshot.{Snapshot}
 use Rattle.lambspool.specs.declared.Store.{Store}
-use Rattle.lambspool.specs.declared.Lookup.{Lookup}
-use Rattle.lambspool.specs.declared.Part.{Part}
 use Rattle.lambspool.specs.declared.Cache.{Cache}
-use Rattle.lambspool.specs.declared.Neighbours.{Neighbours}
 use Rattle.lambspool.specs.declared.Bytes.{Bytes}
 use Rattle.lambspool.proofs.lambspool_crc32_start.Reads as CrcStartCall
 use Rattle.lambspool.proofs.lambspool_crc32_update.Reads as CrcUpdateCall
@@ -48,23 +43,7 @@ use Rattle.lambspool.proofs.lambspool_encode_batch.Reads as EncodeBatchCall
 use Rattle.lambspool.proofs.lambspool_first_line.Reads as FirstLineCall
 use Rattle.lambspool.proofs.lambspool_refusal_line.Reads as RefusalLineCall
 use Rattle.lambspool.proofs.lambspool_node_line.Reads as NodeLineCall
-use Rattle.promises.specs.OneAnswer.{One, OneEach, OneOfThree}
-
--- lambspool_crc32_start()
-pub record DoorCrcStartMeets (r : ℕ) : Type 0 where
-  pub result-is : r ≡ allOnes
-
--- lambspool_crc32_update(crc, bytes)
-pub record DoorCrcUpdateMeets (crc : ℕ) (bytes : List ℕ) (r : ℕ) : Type 0 where
-  pub result-is : r ≡ bytesIn crc bytes
-
--- lambspool_crc32_finish(crc)
-pub record DoorCrcFinishMeets (crc r : ℕ) : Type 0 where
-  pub result-is : r ≡ bitXor crc allOnes
-
--- lambspool_crc32_of(bytes)
-pub record DoorCrcOfMeets (bytes : List ℕ) (r : ℕ) : Type 0 where
-  pub result-is : r ≡ crcOf bytes
+use Rattle.promises.specs.OneAnswer.{OneEach, OneOfThree, Gives}
 
 -- lambspool_read_snapshot(bytes, rows, active): the answer, the row words and the active entries after
 pub record DoorReadSnapshotMeets (bytes rows active : List ℕ) (r : Snapshot) (rows' active' : List ℕ) : Type 0 where
@@ -78,26 +57,10 @@ pub record DoorRecoverMeets (snapshot log rows active : List ℕ) (r : Store) (r
   pub rows-are : rows' ≡ recoverTables rows active (recoverCall rows active snapshot log) .rows
   pub active-is : active' ≡ recoverTables rows active (recoverCall rows active snapshot log) .active
 
--- lambspool_lookup(rows, count, id)
-pub record DoorLookupMeets (rows : List ℕ) (count id : ℕ) (r : Lookup) : Type 0 where
-  pub result-is : r ≡ foundSaid (foundTold (lookup rows count id))
-
--- lambspool_caption(snapshot, log, rows, count, node, d)
-pub record DoorCaptionMeets (snapshot log rows : List ℕ) (count node d : ℕ) (r : Part) : Type 0 where
-  pub result-is : r ≡ partSaid (viewed (view Caption d rows count node snapshot log))
-
--- lambspool_vector(snapshot, log, rows, count, node, d)
-pub record DoorVectorMeets (snapshot log rows : List ℕ) (count node d : ℕ) (r : Part) : Type 0 where
-  pub result-is : r ≡ partSaid (viewed (view Vector d rows count node snapshot log))
-
 -- lambspool_read_cache(bytes, d, m, ef, seed, metric, crc, sequence, count, starts): the answer, and the starts after
 pub record DoorReadCacheMeets (bytes : List ℕ) (d m ef seed metric crc sequence count : ℕ) (starts : List ℕ) (r : Cache) (starts' : List ℕ) : Type 0 where
   pub result-is : r ≡ cacheSaid (cacheTold (cacheAsked d m ef seed metric crc sequence count starts bytes))
   pub starts-are : starts' ≡ startsAfter (length starts) (cacheAsked d m ef seed metric crc sequence count starts bytes)
-
--- lambspool_neighbours(cache, starts, count, node, level)
-pub record DoorNeighboursMeets (cache starts : List ℕ) (count node level : ℕ) (r : Neighbours) : Type 0 where
-  pub result-is : r ≡ neighboursSaid (shownTold (neighbours cache starts count node level))
 
 -- lambspool_write_snapshot(d, m, ef, seed, metric, sequence, rows, count, snapshot, log, out): the answer and the output after
 pub record DoorWriteMeets (d m ef seed metric sequence : ℕ) (rows : List ℕ) (count : ℕ) (snapshot log out : List ℕ) (r : Bytes) (after : List ℕ) : Type 0 where
@@ -135,15 +98,15 @@ pub record DoorNodeLineMeets (snapshot log rows : List ℕ) (count node d : ℕ)
   pub output-is : after ≡ outputAfter out (nodeLineCall d rows count node snapshot log out)
 
 pub record DoorCalls : Type 0 where
-  pub door-crc-start-contract : (κs : _) (r : ℕ) → CrcStartCall.Learnt κs tt r tt → DoorCrcStartMeets r
-  pub door-crc-start-one-answer : One DoorCrcStartMeets
-  pub door-crc-update-contract : (κs : _) (crc : ℕ) (bytes : RefT (List ℕ)) (r : ℕ) → CrcUpdateCall.Learnt κs (crc, (bytes, tt)) r (crc, (bytes, tt))
-      → DoorCrcUpdateMeets crc (now bytes) r
-  pub door-crc-update-one-answer : (crc : ℕ) (bytes : List ℕ) → One (DoorCrcUpdateMeets crc bytes)
-  pub door-crc-finish-contract : (κs : _) (crc r : ℕ) → CrcFinishCall.Learnt κs (crc, tt) r (crc, tt) → DoorCrcFinishMeets crc r
-  pub door-crc-finish-one-answer : (crc : ℕ) → One (DoorCrcFinishMeets crc)
-  pub door-crc-of-contract : (κs : _) (bytes : RefT (List ℕ)) (r : ℕ) → CrcOfCall.Learnt κs (bytes, tt) r (bytes, tt) → DoorCrcOfMeets (now bytes) r
-  pub door-crc-of-one-answer : (bytes : List ℕ) → One (DoorCrcOfMeets bytes)
+  -- lambspool_crc32_start()
+  pub door-crc-start-one-answer : (κs : _) → Gives allOnes (λ r. CrcStartCall.Learnt κs tt r tt)
+  -- lambspool_crc32_update(crc, bytes)
+  pub door-crc-update-one-answer : (κs : _) (crc : ℕ) (bytes : RefT (List ℕ))
+      → Gives (bytesIn crc (now bytes)) (λ r. CrcUpdateCall.Learnt κs (crc, (bytes, tt)) r (crc, (bytes, tt)))
+  -- lambspool_crc32_finish(crc)
+  pub door-crc-finish-one-answer : (κs : _) (crc : ℕ) → Gives (bitXor crc allOnes) (λ r. CrcFinishCall.Learnt κs (crc, tt) r (crc, tt))
+  -- lambspool_crc32_of(bytes)
+  pub door-crc-of-one-answer : (κs : _) (bytes : RefT (List ℕ)) → Gives (crcOf (now bytes)) (λ r. CrcOfCall.Learnt κs (bytes, tt) r (bytes, tt))
   pub door-read-snapshot-contract : (κs : _) (bytes rows active : RefT (List ℕ)) (r : Snapshot) (rows' active' : RefT (List ℕ))
       → ReadSnapshotCall.Learnt κs (bytes, (rows, (active, tt))) r (bytes, (rows', (active', tt)))
       → DoorReadSnapshotMeets (now bytes) (now rows) (now active) r (now rows') (now active')
@@ -152,27 +115,24 @@ pub record DoorCalls : Type 0 where
       → RecoverCall.Learnt κs (snapshot, (log, (rows, (active, tt)))) r (snapshot, (log, (rows', (active', tt))))
       → DoorRecoverMeets (now snapshot) (now log) (now rows) (now active) r (now rows') (now active')
   pub door-recover-one-answer : (snapshot log rows active : List ℕ) → OneOfThree (DoorRecoverMeets snapshot log rows active)
-  pub door-lookup-contract : (κs : _) (rows : RefT (List ℕ)) (count id : ℕ) (r : Lookup)
-      → LookupCall.Learnt κs (rows, (count, (id, tt))) r (rows, (count, (id, tt))) → DoorLookupMeets (now rows) count id r
-  pub door-lookup-one-answer : (rows : List ℕ) (count id : ℕ) → One (DoorLookupMeets rows count id)
-  pub door-caption-contract : (κs : _) (snapshot log rows : RefT (List ℕ)) (count node d : ℕ) (r : Part)
-      → CaptionCall.Learnt κs (snapshot, (log, (rows, (count, (node, (d, tt)))))) r (snapshot, (log, (rows, (count, (node, (d, tt))))))
-      → DoorCaptionMeets (now snapshot) (now log) (now rows) count node d r
-  pub door-caption-one-answer : (snapshot log rows : List ℕ) (count node d : ℕ) → One (DoorCaptionMeets snapshot log rows count node d)
-  pub door-vector-contract : (κs : _) (snapshot log rows : RefT (List ℕ)) (count node d : ℕ) (r : Part)
-      → VectorCall.Learnt κs (snapshot, (log, (rows, (count, (node, (d, tt)))))) r (snapshot, (log, (rows, (count, (node, (d, tt))))))
-      → DoorVectorMeets (now snapshot) (now log) (now rows) count node d r
-  pub door-vector-one-answer : (snapshot log rows : List ℕ) (count node d : ℕ) → One (DoorVectorMeets snapshot log rows count node d)
+  -- lambspool_lookup(rows, count, id)
+  pub door-lookup-one-answer : (κs : _) (rows : RefT (List ℕ)) (count id : ℕ)
+      → Gives (foundSaid (foundTold (lookup (now rows) count id))) (λ r. LookupCall.Learnt κs (rows, (count, (id, tt))) r (rows, (count, (id, tt))))
+  -- lambspool_caption(snapshot, log, rows, count, node, d)
+  pub door-caption-one-answer : (κs : _) (snapshot log rows : RefT (List ℕ)) (count node d : ℕ)
+      → Gives (partSaid (viewed (view Caption d (now rows) count node (now snapshot) (now log)))) (λ r. CaptionCall.Learnt κs (snapshot, (log, (rows, (count, (node, (d, tt)))))) r (snapshot, (log, (rows, (count, (node, (d, tt)))))))
+  -- lambspool_vector(snapshot, log, rows, count, node, d)
+  pub door-vector-one-answer : (κs : _) (snapshot log rows : RefT (List ℕ)) (count node d : ℕ)
+      → Gives (partSaid (viewed (view Vector d (now rows) count node (now snapshot) (now log)))) (λ r. VectorCall.Learnt κs (snapshot, (log, (rows, (count, (node, (d, tt)))))) r (snapshot, (log, (rows, (count, (node, (d, tt)))))))
   pub door-read-cache-contract : (κs : _) (bytes : RefT (List ℕ)) (d m ef seed metric crc sequence count : ℕ) (starts : RefT (List ℕ)) (r : Cache) (starts' : RefT (List ℕ))
       → ReadCacheCall.Learnt κs (bytes, (d, (m, (ef, (seed, (metric, (crc, (sequence, (count, (starts, tt)))))))))) r
       (bytes, (d, (m, (ef, (seed, (metric, (crc, (sequence, (count, (starts', tt))))))))))
       → DoorReadCacheMeets (now bytes) d m ef seed metric crc sequence count (now starts) r (now starts')
   pub door-read-cache-one-answer : (bytes : List ℕ) (d m ef seed metric crc sequence count : ℕ) (starts : List ℕ)
       → OneEach (DoorReadCacheMeets bytes d m ef seed metric crc sequence count starts)
-  pub door-neighbours-contract : (κs : _) (cache starts : RefT (List ℕ)) (count node level : ℕ) (r : Neighbours)
-      → NeighboursCall.Learnt κs (cache, (starts, (count, (node, (level, tt))))) r (cache, (starts, (count, (node, (level, tt)))))
-      → DoorNeighboursMeets (now cache) (now starts) count node level r
-  pub door-neighbours-one-answer : (cache starts : List ℕ) (count node level : ℕ) → One (DoorNeighboursMeets cache starts count node level)
+  -- lambspool_neighbours(cache, starts, count, node, level)
+  pub door-neighbours-one-answer : (κs : _) (cache starts : RefT (List ℕ)) (count node level : ℕ)
+      → Gives (neighboursSaid (shownTold (neighbours (now cache) (now starts) count node level))) (λ r. NeighboursCall.Learnt κs (cache, (starts, (count, (node, (level, tt))))) r (cache, (starts, (count, (node, (level, tt))))))
   pub door-write-contract : (κs : _) (d m ef seed metric sequence : ℕ) (rows : RefT (List ℕ)) (count : ℕ) (snapshot log out : RefT (List ℕ)) (r : Bytes) (after : RefT (List ℕ))
       → WriteCall.Learnt κs (d, (m, (ef, (seed, (metric, (sequence, (rows, (count, (snapshot, (log, (out, tt))))))))))) r
       (d, (m, (ef, (seed, (metric, (sequence, (rows, (count, (snapshot, (log, (after, tt)))))))))))

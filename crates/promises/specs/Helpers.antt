@@ -9,7 +9,6 @@ use mathlib.Core.List.{List, _∷_, _++_}
 use lib.ListN.{length, take, replicate}
 use denote.Ref.{RefT, now}
 use Rattle.refusal.specs.declared.Refusal.{Refusal}
-use Rattle.refusal.specs.declared.Checked.{Checked}
 use Rattle.refusal.specs.declared.Measured.{Measured}
 use Rattle.refusal.specs.Refusal.{checked, measured}
 use Rattle.crc32.specs.Crc.{bytesIn, crcOf}
@@ -31,11 +30,8 @@ use Rattle.meaning.specs.Tables.{rowsIn}
 use Rattle.meaning.specs.Encoder.{frameBytes}
 use Rattle.meaning.specs.Log.{payloadCrcHolds}
 use Rattle.active.specs.Active.{activated, rowsLeft, entriesLeft}
-use Rattle.frames.specs.declared.Envelope.{Envelope}
 use Rattle.frames.specs.Envelope.{envelopeAt}
 use Rattle.meaning.specs.Log as Meant
-use Rattle.log.specs.declared.ReadOperation.{ReadOperation}
-use Rattle.log.specs.declared.ReadFrame.{ReadFrame}
 use Rattle.log.specs.Told.{operationTold, frameTold}
 use Rattle.links.specs.Links.{plainWord, deletedWord, captionLength, linkIn}
 use Rattle.crc32.proofs.crc32_with.Reads as Crc32WithCall
@@ -75,191 +71,101 @@ use Rattle.links.proofs.deleted_word.Reads as DeletedWordCall
 use Rattle.links.proofs.caption_length.Reads as CaptionLengthCall
 use Rattle.links.proofs.link_at.Reads as LinkAtCall
 use Rattle.sources.proofs.cut.Reads as CutCall
-use Rattle.promises.specs.OneAnswer.{One, OneEach, OneOfThree, OneView}
+use Rattle.promises.specs.OneAnswer.{OneEach, OneOfThree, OneView, Gives, LentAfter}
 
 -- ---- crc32
--- crc32_with(tables, bytes)
-pub record Crc32WithMeets (tables bytes : List ℕ) (r : ℕ) : Type 0 where
-  pub result-is : r ≡ crcOf bytes
-
--- update(tables, c, bytes)
-pub record CrcUpdateMeets (tables : List ℕ) (c : ℕ) (bytes : List ℕ) (r : ℕ) : Type 0 where
-  pub result-is : r ≡ bytesIn c bytes
-
 pub record Crc32Helpers : Type 0 where
-  pub crc32-with-contract : (κs : _) (tables bytes : RefT (List ℕ)) (r : ℕ) → Crc32WithCall.Learnt κs (tables, (bytes, tt)) r (tables, (bytes, tt))
-      → Crc32WithMeets (now tables) (now bytes) r
-  pub crc32-with-one-answer : (tables bytes : List ℕ) → One (Crc32WithMeets tables bytes)
-  pub crc-update-contract : (κs : _) (tables : RefT (List ℕ)) (c : ℕ) (bytes : RefT (List ℕ)) (r : ℕ)
-      → CrcUpdateCall.Learnt κs (tables, (c, (bytes, tt))) r (tables, (c, (bytes, tt))) → CrcUpdateMeets (now tables) c (now bytes) r
-  pub crc-update-one-answer : (tables : List ℕ) (c : ℕ) (bytes : List ℕ) → One (CrcUpdateMeets tables c bytes)
+  -- crc32_with(tables, bytes)
+  pub crc32-with-one-answer : (κs : _) (tables bytes : RefT (List ℕ))
+      → Gives (crcOf (now bytes)) (λ r. Crc32WithCall.Learnt κs (tables, (bytes, tt)) r (tables, (bytes, tt)))
+  -- update(tables, c, bytes)
+  pub crc-update-one-answer : (κs : _) (tables : RefT (List ℕ)) (c : ℕ) (bytes : RefT (List ℕ))
+      → Gives (bytesIn c (now bytes)) (λ r. CrcUpdateCall.Learnt κs (tables, (c, (bytes, tt))) r (tables, (c, (bytes, tt))))
 
 -- ---- layout
--- caption_offset(d)
-pub record CaptionOffsetMeets (d r : ℕ) : Type 0 where
-  pub result-is : r ≡ captionOffset d
-
--- item_length(d, count)
-pub record ItemLengthMeets (d count r : ℕ) : Type 0 where
-  pub result-is : r ≡ itemLength d count
-
--- record_length(d, count)
-pub record RecordLengthMeets (d count r : ℕ) : Type 0 where
-  pub result-is : r ≡ recordLength d count
-
 pub record LayoutHelpers : Type 0 where
-  pub caption-offset-contract : (κs : _) (d r : ℕ) → CaptionOffsetCall.Learnt κs (d, tt) r (d, tt) → CaptionOffsetMeets d r
-  pub caption-offset-one-answer : (d : ℕ) → One (CaptionOffsetMeets d)
-  pub item-length-contract : (κs : _) (d count r : ℕ) → ItemLengthCall.Learnt κs (d, (count, tt)) r (d, (count, tt)) → ItemLengthMeets d count r
-  pub item-length-one-answer : (d count : ℕ) → One (ItemLengthMeets d count)
-  pub record-length-contract : (κs : _) (d count r : ℕ) → RecordLengthCall.Learnt κs (d, (count, tt)) r (d, (count, tt)) → RecordLengthMeets d count r
-  pub record-length-one-answer : (d count : ℕ) → One (RecordLengthMeets d count)
+  -- caption_offset(d)
+  pub caption-offset-one-answer : (κs : _) (d : ℕ) → Gives (captionOffset d) (λ r. CaptionOffsetCall.Learnt κs (d, tt) r (d, tt))
+  -- item_length(d, count)
+  pub item-length-one-answer : (κs : _) (d count : ℕ) → Gives (itemLength d count) (λ r. ItemLengthCall.Learnt κs (d, (count, tt)) r (d, (count, tt)))
+  -- record_length(d, count)
+  pub record-length-one-answer : (κs : _) (d count : ℕ)
+      → Gives (recordLength d count) (λ r. RecordLengthCall.Learnt κs (d, (count, tt)) r (d, (count, tt)))
 
 -- ---- fields
--- get_u32(bytes, at)
-pub record GetU32Meets (bytes : List ℕ) (at r : ℕ) : Type 0 where
-  pub result-is : r ≡ num bytes at 4
-
--- get_u64(bytes, at)
-pub record GetU64Meets (bytes : List ℕ) (at r : ℕ) : Type 0 where
-  pub result-is : r ≡ num bytes at 8
-
--- put_u8(out, at, v)
-pub record PutU8Meets (out : List ℕ) (at v : ℕ) (after : List ℕ) : Type 0 where
-  pub output-is : after ≡ placed at (bytes 1 v) out
-
--- put_u32(out, at, v)
-pub record PutU32Meets (out : List ℕ) (at v : ℕ) (after : List ℕ) : Type 0 where
-  pub output-is : after ≡ placed at (bytes 4 v) out
-
--- put_u64(out, at, v)
-pub record PutU64Meets (out : List ℕ) (at v : ℕ) (after : List ℕ) : Type 0 where
-  pub output-is : after ≡ placed at (bytes 8 v) out
-
--- copy(out, source)
-pub record CopyMeets (out source after : List ℕ) : Type 0 where
-  pub output-is : after ≡ placed 0 source out
-
 pub record FieldsHelpers : Type 0 where
-  pub get-u32-contract : (κs : _) (bytes : RefT (List ℕ)) (at r : ℕ) → GetU32Call.Learnt κs (bytes, (at, tt)) r (bytes, (at, tt))
-      → GetU32Meets (now bytes) at r
-  pub get-u32-one-answer : (bytes : List ℕ) (at : ℕ) → One (GetU32Meets bytes at)
-  pub get-u64-contract : (κs : _) (bytes : RefT (List ℕ)) (at r : ℕ) → GetU64Call.Learnt κs (bytes, (at, tt)) r (bytes, (at, tt))
-      → GetU64Meets (now bytes) at r
-  pub get-u64-one-answer : (bytes : List ℕ) (at : ℕ) → One (GetU64Meets bytes at)
-  pub put-u8-contract : (κs : _) (out : RefT (List ℕ)) (at v : ℕ) (after : RefT (List ℕ))
-      → PutU8Call.Learnt κs (out, (at, (v, tt))) tt (after, (at, (v, tt))) → PutU8Meets (now out) at v (now after)
-  pub put-u8-one-answer : (out : List ℕ) (at v : ℕ) → One (PutU8Meets out at v)
-  pub put-u32-contract : (κs : _) (out : RefT (List ℕ)) (at v : ℕ) (after : RefT (List ℕ))
-      → PutU32Call.Learnt κs (out, (at, (v, tt))) tt (after, (at, (v, tt))) → PutU32Meets (now out) at v (now after)
-  pub put-u32-one-answer : (out : List ℕ) (at v : ℕ) → One (PutU32Meets out at v)
-  pub put-u64-contract : (κs : _) (out : RefT (List ℕ)) (at v : ℕ) (after : RefT (List ℕ))
-      → PutU64Call.Learnt κs (out, (at, (v, tt))) tt (after, (at, (v, tt))) → PutU64Meets (now out) at v (now after)
-  pub put-u64-one-answer : (out : List ℕ) (at v : ℕ) → One (PutU64Meets out at v)
-  pub copy-contract : (κs : _) (out source after : RefT (List ℕ)) → CopyCall.Learnt κs (out, (source, tt)) tt (after, (source, tt))
-      → CopyMeets (now out) (now source) (now after)
-  pub copy-one-answer : (out source : List ℕ) → One (CopyMeets out source)
+  -- get_u32(bytes, at)
+  pub get-u32-one-answer : (κs : _) (bytes : RefT (List ℕ)) (at : ℕ)
+      → Gives (num (now bytes) at 4) (λ r. GetU32Call.Learnt κs (bytes, (at, tt)) r (bytes, (at, tt)))
+  -- get_u64(bytes, at)
+  pub get-u64-one-answer : (κs : _) (bytes : RefT (List ℕ)) (at : ℕ)
+      → Gives (num (now bytes) at 8) (λ r. GetU64Call.Learnt κs (bytes, (at, tt)) r (bytes, (at, tt)))
+  -- put_u8(out, at, v)
+  pub put-u8-one-answer : (κs : _) (out : RefT (List ℕ)) (at v : ℕ)
+      → LentAfter (placed at (bytes 1 v) (now out)) (λ after. PutU8Call.Learnt κs (out, (at, (v, tt))) tt (after, (at, (v, tt))))
+  -- put_u32(out, at, v)
+  pub put-u32-one-answer : (κs : _) (out : RefT (List ℕ)) (at v : ℕ)
+      → LentAfter (placed at (bytes 4 v) (now out)) (λ after. PutU32Call.Learnt κs (out, (at, (v, tt))) tt (after, (at, (v, tt))))
+  -- put_u64(out, at, v)
+  pub put-u64-one-answer : (κs : _) (out : RefT (List ℕ)) (at v : ℕ)
+      → LentAfter (placed at (bytes 8 v) (now out)) (λ after. PutU64Call.Learnt κs (out, (at, (v, tt))) tt (after, (at, (v, tt))))
+  -- copy(out, source)
+  pub copy-one-answer : (κs : _) (out source : RefT (List ℕ))
+      → LentAfter (placed 0 (now source) (now out)) (λ after. CopyCall.Learnt κs (out, (source, tt)) tt (after, (source, tt)))
 
 -- ---- coordinates
--- check_coordinates(bytes, at, d, cosine)
-pub record CheckCoordinatesMeets (bytes : List ℕ) (at d : ℕ) (cosine : Bool) (r : Checked) : Type 0 where
-  pub result-is : r ≡ checked (coordinatesOf cosine d (part bytes at (4 * d)))
-
 pub record CoordinatesHelpers : Type 0 where
-  pub check-coordinates-contract : (κs : _) (bytes : RefT (List ℕ)) (at d : ℕ) (cosine : Bool) (r : Checked)
-      → CheckCoordinatesCall.Learnt κs (bytes, (at, (d, (cosine, tt)))) r (bytes, (at, (d, (cosine, tt))))
-      → CheckCoordinatesMeets (now bytes) at d cosine r
-  pub check-coordinates-one-answer : (bytes : List ℕ) (at d : ℕ) (cosine : Bool) → One (CheckCoordinatesMeets bytes at d cosine)
+  -- check_coordinates(bytes, at, d, cosine)
+  pub check-coordinates-one-answer : (κs : _) (bytes : RefT (List ℕ)) (at d : ℕ) (cosine : Bool)
+      → Gives (checked (coordinatesOf cosine d (part (now bytes) at (4 * d)))) (λ r. CheckCoordinatesCall.Learnt κs (bytes, (at, (d, (cosine, tt)))) r (bytes, (at, (d, (cosine, tt)))))
 
 -- ---- rows
--- Row::pack(self)
-pub record RowPackMeets (self : Row) (r : ℕ) : Type 0 where
-  pub result-is : r ≡ rowWord self
-
--- Operation::pack(self)
-pub record OperationPackMeets (self : Operation) (r : ℕ) : Type 0 where
-  pub result-is : r ≡ operationWord self
-
--- row_at(rows, node)
-pub record RowAtMeets (rows : List ℕ) (node : Node) (r : Row) : Type 0 where
-  pub result-is : r ≡ rowAt rows (node .0)
-
--- set_row(rows, node, row)
-pub record SetRowMeets (rows : List ℕ) (node : Node) (row : Row) (after : List ℕ) : Type 0 where
-  pub rows-are : after ≡ setRow rows (node .0) row
-
--- operation_at(words, i)
-pub record OperationAtMeets (words : List ℕ) (i : ℕ) (r : Operation) : Type 0 where
-  pub result-is : r ≡ operationAt words i
-
 pub record RowsHelpers : Type 0 where
-  pub row-pack-contract : (κs : _) (self : Row) (r : ℕ) → RowPackCall.Learnt κs (self, tt) r (self, tt) → RowPackMeets self r
-  pub row-pack-one-answer : (self : Row) → One (RowPackMeets self)
-  pub operation-pack-contract : (κs : _) (self : Operation) (r : ℕ) → OperationPackCall.Learnt κs (self, tt) r (self, tt) → OperationPackMeets self r
-  pub operation-pack-one-answer : (self : Operation) → One (OperationPackMeets self)
-  pub row-at-contract : (κs : _) (rows : RefT (List ℕ)) (node : Node) (r : Row) → RowAtCall.Learnt κs (rows, (node, tt)) r (rows, (node, tt))
-      → RowAtMeets (now rows) node r
-  pub row-at-one-answer : (rows : List ℕ) (node : Node) → One (RowAtMeets rows node)
-  pub set-row-contract : (κs : _) (rows : RefT (List ℕ)) (node : Node) (row : Row) (after : RefT (List ℕ))
-      → SetRowCall.Learnt κs (rows, (node, (row, tt))) tt (after, (node, (row, tt))) → SetRowMeets (now rows) node row (now after)
-  pub set-row-one-answer : (rows : List ℕ) (node : Node) (row : Row) → One (SetRowMeets rows node row)
-  pub operation-at-contract : (κs : _) (words : RefT (List ℕ)) (i : ℕ) (r : Operation) → OperationAtCall.Learnt κs (words, (i, tt)) r (words, (i, tt))
-      → OperationAtMeets (now words) i r
-  pub operation-at-one-answer : (words : List ℕ) (i : ℕ) → One (OperationAtMeets words i)
+  -- Row::pack(self)
+  pub row-pack-one-answer : (κs : _) (self : Row) → Gives (rowWord self) (λ r. RowPackCall.Learnt κs (self, tt) r (self, tt))
+  -- Operation::pack(self)
+  pub operation-pack-one-answer : (κs : _) (self : Operation) → Gives (operationWord self) (λ r. OperationPackCall.Learnt κs (self, tt) r (self, tt))
+  -- row_at(rows, node)
+  pub row-at-one-answer : (κs : _) (rows : RefT (List ℕ)) (node : Node)
+      → Gives (rowAt (now rows) (node .0)) (λ r. RowAtCall.Learnt κs (rows, (node, tt)) r (rows, (node, tt)))
+  -- set_row(rows, node, row)
+  pub set-row-one-answer : (κs : _) (rows : RefT (List ℕ)) (node : Node) (row : Row)
+      → LentAfter (setRow (now rows) (node .0) row) (λ after. SetRowCall.Learnt κs (rows, (node, (row, tt))) tt (after, (node, (row, tt))))
+  -- operation_at(words, i)
+  pub operation-at-one-answer : (κs : _) (words : RefT (List ℕ)) (i : ℕ)
+      → Gives (operationAt (now words) i) (λ r. OperationAtCall.Learnt κs (words, (i, tt)) r (words, (i, tt)))
 
 -- ---- sources
--- shown_part(shown, d, row)
-pub record ShownPartMeets (shown : Shown) (d : ℕ) (row : Row) (r : Part) : Type 0 where
-  pub result-is : r ≡ shownPart shown d row
-
--- outside(snapshot, log, part)
-pub record OutsideMeets (snapshot log : List ℕ) (place : Part) (r : Bool) : Type 0 where
-  pub result-is : r ≡ outside snapshot log place
-
 -- cut(snapshot, log, part): the bytes of the part, and the place of the first
 pub record CutMeets (snapshot log : RefT (List ℕ)) (place : Part) (r : RefT (List ℕ)) : Type 0 where
   pub bytes-are : now r ≡ bytesOf (now snapshot) (now log) place
   pub start-is : r .ptr ≡ startOf (snapshot .ptr) (log .ptr) place
 
 pub record SourcesHelpers : Type 0 where
-  pub shown-part-contract : (κs : _) (shown : Shown) (d : ℕ) (row : Row) (r : Part)
-      → ShownPartCall.Learnt κs (shown, (d, (row, tt))) r (shown, (d, (row, tt))) → ShownPartMeets shown d row r
-  pub shown-part-one-answer : (shown : Shown) (d : ℕ) (row : Row) → One (ShownPartMeets shown d row)
-  pub outside-contract : (κs : _) (snapshot log : RefT (List ℕ)) (place : Part) (r : Bool)
-      → OutsideCall.Learnt κs (snapshot, (log, (place, tt))) r (snapshot, (log, (place, tt))) → OutsideMeets (now snapshot) (now log) place r
-  pub outside-one-answer : (snapshot log : List ℕ) (place : Part) → One (OutsideMeets snapshot log place)
+  -- shown_part(shown, d, row)
+  pub shown-part-one-answer : (κs : _) (shown : Shown) (d : ℕ) (row : Row)
+      → Gives (shownPart shown d row) (λ r. ShownPartCall.Learnt κs (shown, (d, (row, tt))) r (shown, (d, (row, tt))))
+  -- outside(snapshot, log, part)
+  pub outside-one-answer : (κs : _) (snapshot log : RefT (List ℕ)) (place : Part)
+      → Gives (outside (now snapshot) (now log) place) (λ r. OutsideCall.Learnt κs (snapshot, (log, (place, tt))) r (snapshot, (log, (place, tt))))
   pub cut-contract : (κs : _) (snapshot log : RefT (List ℕ)) (place : Part) (r : RefT (List ℕ))
       → CutCall.Learnt κs (snapshot, (log, (place, tt))) r (snapshot, (log, (place, tt))) → CutMeets snapshot log place r
   pub cut-one-answer : (snapshot log : RefT (List ℕ)) (place : Part) → OneView (CutMeets snapshot log place)
 
 -- ---- sorting
--- is_rising(rows, active, n)
-pub record IsRisingMeets (rows active : List ℕ) (count : ℕ) (r : Bool) : Type 0 where
-  pub result-is : r ≡ rising rows (take count active)
-
 pub record SortingHelpers : Type 0 where
-  pub is-rising-contract : (κs : _) (rows active : RefT (List ℕ)) (count : ℕ) (r : Bool)
-      → IsRisingCall.Learnt κs (rows, (active, (count, tt))) r (rows, (active, (count, tt))) → IsRisingMeets (now rows) (now active) count r
-  pub is-rising-one-answer : (rows active : List ℕ) (count : ℕ) → One (IsRisingMeets rows active count)
+  -- is_rising(rows, active, n)
+  pub is-rising-one-answer : (κs : _) (rows active : RefT (List ℕ)) (count : ℕ)
+      → Gives (rising (now rows) (take count (now active))) (λ r. IsRisingCall.Learnt κs (rows, (active, (count, tt))) r (rows, (active, (count, tt))))
 
 -- ---- items
--- check_caption(config, bytes, end, at)
-pub record CheckCaptionMeets (config : Config) (bytes : List ℕ) (end at : ℕ) (r : Measured) : Type 0 where
-  pub result-is : r ≡ measured (captionAt config bytes end at)
-
--- check_item(short, config, bytes, end, at)
-pub record CheckItemMeets (short : Refusal) (config : Config) (bytes : List ℕ) (end at : ℕ) (r : Measured) : Type 0 where
-  pub result-is : r ≡ measured (itemAt short config bytes end at)
-
 pub record ItemsHelpers : Type 0 where
-  pub check-caption-contract : (κs : _) (config : Config) (bytes : RefT (List ℕ)) (end at : ℕ) (r : Measured)
-      → CheckCaptionCall.Learnt κs (config, (bytes, (end, (at, tt)))) r (config, (bytes, (end, (at, tt))))
-      → CheckCaptionMeets config (now bytes) end at r
-  pub check-caption-one-answer : (config : Config) (bytes : List ℕ) (end at : ℕ) → One (CheckCaptionMeets config bytes end at)
-  pub check-item-contract : (κs : _) (short : Refusal) (config : Config) (bytes : RefT (List ℕ)) (end at : ℕ) (r : Measured)
-      → CheckItemCall.Learnt κs (short, (config, (bytes, (end, (at, tt))))) r (short, (config, (bytes, (end, (at, tt)))))
-      → CheckItemMeets short config (now bytes) end at r
-  pub check-item-one-answer : (short : Refusal) (config : Config) (bytes : List ℕ) (end at : ℕ) → One (CheckItemMeets short config bytes end at)
+  -- check_caption(config, bytes, end, at)
+  pub check-caption-one-answer : (κs : _) (config : Config) (bytes : RefT (List ℕ)) (end at : ℕ)
+      → Gives (measured (captionAt config (now bytes) end at)) (λ r. CheckCaptionCall.Learnt κs (config, (bytes, (end, (at, tt)))) r (config, (bytes, (end, (at, tt)))))
+  -- check_item(short, config, bytes, end, at)
+  pub check-item-one-answer : (κs : _) (short : Refusal) (config : Config) (bytes : RefT (List ℕ)) (end at : ℕ)
+      → Gives (measured (itemAt short config (now bytes) end at)) (λ r. CheckItemCall.Learnt κs (short, (config, (bytes, (end, (at, tt))))) r (short, (config, (bytes, (end, (at, tt))))))
 
 -- ---- active
 -- clear(rows, entries): both tables, after
@@ -283,97 +189,43 @@ pub record ActiveHelpers : Type 0 where
   pub activate-one-answer : (rows : List ℕ) (count : ℕ) (entries : List ℕ) → OneOfThree (ActivateMeets rows count entries)
 
 -- ---- frames
--- write_opcode(out, opcode, sequence)
-pub record WriteOpcodeMeets (out : List ℕ) (opcode sequence : ℕ) (after : List ℕ) : Type 0 where
-  pub output-is : after ≡ placed 0 (opcode ∷ bytes 8 sequence) out
-
--- write_delete(out, sequence, id)
-pub record WriteDeleteMeets (out : List ℕ) (sequence id : ℕ) (after : List ℕ) : Type 0 where
-  pub output-is : after ≡ placed 0 (2 ∷ (bytes 8 sequence ++ bytes 8 id)) out
-
--- seal(out, count)
-pub record SealMeets (out : List ℕ) (count : ℕ) (after : List ℕ) : Type 0 where
-  pub output-is : after ≡ placed 0 (frameBytes (part out frameHead count)) out
-
--- read_envelope(log, at)
-pub record ReadEnvelopeMeets (log : List ℕ) (at : ℕ) (r : Envelope) : Type 0 where
-  pub result-is : r ≡ envelopeAt log at
-
--- payload_crc_holds(tables, log, at, count)
-pub record PayloadCrcHoldsMeets (tables log : List ℕ) (at count : ℕ) (r : Bool) : Type 0 where
-  pub result-is : r ≡ payloadCrcHolds log at count
-
 pub record FramesHelpers : Type 0 where
-  pub write-opcode-contract : (κs : _) (out : RefT (List ℕ)) (opcode sequence : ℕ) (after : RefT (List ℕ))
-      → WriteOpcodeCall.Learnt κs (out, (opcode, (sequence, tt))) tt (after, (opcode, (sequence, tt)))
-      → WriteOpcodeMeets (now out) opcode sequence (now after)
-  pub write-opcode-one-answer : (out : List ℕ) (opcode sequence : ℕ) → One (WriteOpcodeMeets out opcode sequence)
-  pub write-delete-contract : (κs : _) (out : RefT (List ℕ)) (sequence id : ℕ) (after : RefT (List ℕ))
-      → WriteDeleteCall.Learnt κs (out, (sequence, (id, tt))) tt (after, (sequence, (id, tt))) → WriteDeleteMeets (now out) sequence id (now after)
-  pub write-delete-one-answer : (out : List ℕ) (sequence id : ℕ) → One (WriteDeleteMeets out sequence id)
-  pub seal-contract : (κs : _) (out : RefT (List ℕ)) (count : ℕ) (after : RefT (List ℕ))
-      → SealCall.Learnt κs (out, (count, tt)) tt (after, (count, tt)) → SealMeets (now out) count (now after)
-  pub seal-one-answer : (out : List ℕ) (count : ℕ) → One (SealMeets out count)
-  pub read-envelope-contract : (κs : _) (log : RefT (List ℕ)) (at : ℕ) (r : Envelope) → ReadEnvelopeCall.Learnt κs (log, (at, tt)) r (log, (at, tt))
-      → ReadEnvelopeMeets (now log) at r
-  pub read-envelope-one-answer : (log : List ℕ) (at : ℕ) → One (ReadEnvelopeMeets log at)
-  pub payload-crc-holds-contract : (κs : _) (tables log : RefT (List ℕ)) (at count : ℕ) (r : Bool)
-      → PayloadCrcHoldsCall.Learnt κs (tables, (log, (at, (count, tt)))) r (tables, (log, (at, (count, tt))))
-      → PayloadCrcHoldsMeets (now tables) (now log) at count r
-  pub payload-crc-holds-one-answer : (tables log : List ℕ) (at count : ℕ) → One (PayloadCrcHoldsMeets tables log at count)
+  -- write_opcode(out, opcode, sequence)
+  pub write-opcode-one-answer : (κs : _) (out : RefT (List ℕ)) (opcode sequence : ℕ)
+      → LentAfter (placed 0 (opcode ∷ bytes 8 sequence) (now out)) (λ after. WriteOpcodeCall.Learnt κs (out, (opcode, (sequence, tt))) tt (after, (opcode, (sequence, tt))))
+  -- write_delete(out, sequence, id)
+  pub write-delete-one-answer : (κs : _) (out : RefT (List ℕ)) (sequence id : ℕ)
+      → LentAfter (placed 0 (2 ∷ (bytes 8 sequence ++ bytes 8 id)) (now out)) (λ after. WriteDeleteCall.Learnt κs (out, (sequence, (id, tt))) tt (after, (sequence, (id, tt))))
+  -- seal(out, count)
+  pub seal-one-answer : (κs : _) (out : RefT (List ℕ)) (count : ℕ)
+      → LentAfter (placed 0 (frameBytes (part (now out) frameHead count)) (now out)) (λ after. SealCall.Learnt κs (out, (count, tt)) tt (after, (count, tt)))
+  -- read_envelope(log, at)
+  pub read-envelope-one-answer : (κs : _) (log : RefT (List ℕ)) (at : ℕ)
+      → Gives (envelopeAt (now log) at) (λ r. ReadEnvelopeCall.Learnt κs (log, (at, tt)) r (log, (at, tt)))
+  -- payload_crc_holds(tables, log, at, count)
+  pub payload-crc-holds-one-answer : (κs : _) (tables log : RefT (List ℕ)) (at count : ℕ)
+      → Gives (payloadCrcHolds (now log) at count) (λ r. PayloadCrcHoldsCall.Learnt κs (tables, (log, (at, (count, tt)))) r (tables, (log, (at, (count, tt)))))
 
 -- ---- log
--- read_operation(config, log, end, tag, at)
-pub record ReadOperationMeets (config : Config) (log : List ℕ) (end tag at : ℕ) (r : ReadOperation) : Type 0 where
-  pub result-is : r ≡ operationTold (Meant.operationAt config log end tag at)
-
--- stored_operation(config, log, end, tag, at)
-pub record StoredOperationMeets (config : Config) (log : List ℕ) (end tag at : ℕ) (r : ReadOperation) : Type 0 where
-  pub result-is : r ≡ operationTold (Meant.operationAt config log end tag at)
-
--- read_frame(tables, config, log, previous, at)
-pub record ReadFrameMeets (tables : List ℕ) (config : Config) (log : List ℕ) (previous at : ℕ) (r : ReadFrame) : Type 0 where
-  pub result-is : r ≡ frameTold (Meant.frameAt config log previous at)
-
 pub record LogHelpers : Type 0 where
-  pub read-operation-contract : (κs : _) (config : Config) (log : RefT (List ℕ)) (end tag at : ℕ) (r : ReadOperation)
-      → ReadOperationCall.Learnt κs (config, (log, (end, (tag, (at, tt))))) r (config, (log, (end, (tag, (at, tt)))))
-      → ReadOperationMeets config (now log) end tag at r
-  pub read-operation-one-answer : (config : Config) (log : List ℕ) (end tag at : ℕ) → One (ReadOperationMeets config log end tag at)
-  pub stored-operation-contract : (κs : _) (config : Config) (log : RefT (List ℕ)) (end tag at : ℕ) (r : ReadOperation)
-      → StoredOperationCall.Learnt κs (config, (log, (end, (tag, (at, tt))))) r (config, (log, (end, (tag, (at, tt)))))
-      → StoredOperationMeets config (now log) end tag at r
-  pub stored-operation-one-answer : (config : Config) (log : List ℕ) (end tag at : ℕ) → One (StoredOperationMeets config log end tag at)
-  pub read-frame-contract : (κs : _) (tables : RefT (List ℕ)) (config : Config) (log : RefT (List ℕ)) (previous at : ℕ) (r : ReadFrame)
-      → ReadFrameCall.Learnt κs (tables, (config, (log, (previous, (at, tt))))) r (tables, (config, (log, (previous, (at, tt)))))
-      → ReadFrameMeets (now tables) config (now log) previous at r
-  pub read-frame-one-answer : (tables : List ℕ) (config : Config) (log : List ℕ) (previous at : ℕ) → One (ReadFrameMeets tables config log previous at)
+  -- read_operation(config, log, end, tag, at)
+  pub read-operation-one-answer : (κs : _) (config : Config) (log : RefT (List ℕ)) (end tag at : ℕ)
+      → Gives (operationTold (Meant.operationAt config (now log) end tag at)) (λ r. ReadOperationCall.Learnt κs (config, (log, (end, (tag, (at, tt))))) r (config, (log, (end, (tag, (at, tt))))))
+  -- stored_operation(config, log, end, tag, at)
+  pub stored-operation-one-answer : (κs : _) (config : Config) (log : RefT (List ℕ)) (end tag at : ℕ)
+      → Gives (operationTold (Meant.operationAt config (now log) end tag at)) (λ r. StoredOperationCall.Learnt κs (config, (log, (end, (tag, (at, tt))))) r (config, (log, (end, (tag, (at, tt))))))
+  -- read_frame(tables, config, log, previous, at)
+  pub read-frame-one-answer : (κs : _) (tables : RefT (List ℕ)) (config : Config) (log : RefT (List ℕ)) (previous at : ℕ)
+      → Gives (frameTold (Meant.frameAt config (now log) previous at)) (λ r. ReadFrameCall.Learnt κs (tables, (config, (log, (previous, (at, tt))))) r (tables, (config, (log, (previous, (at, tt))))))
 
 -- ---- links
--- plain(word)
-pub record PlainMeets (word r : ℕ) : Type 0 where
-  pub result-is : r ≡ plainWord word
-
--- deleted_word(word)
-pub record DeletedWordMeets (word r : ℕ) : Type 0 where
-  pub result-is : r ≡ deletedWord word
-
--- caption_length(word)
-pub record CaptionLengthMeets (word r : ℕ) : Type 0 where
-  pub result-is : r ≡ captionLength word
-
--- link_at(words, entries, root, cell)
-pub record LinkAtMeets (words entries : List ℕ) (root cell r : ℕ) : Type 0 where
-  pub result-is : r ≡ linkIn root words entries cell
-
 pub record LinksHelpers : Type 0 where
-  pub plain-contract : (κs : _) (word r : ℕ) → PlainCall.Learnt κs (word, tt) r (word, tt) → PlainMeets word r
-  pub plain-one-answer : (word : ℕ) → One (PlainMeets word)
-  pub deleted-word-contract : (κs : _) (word r : ℕ) → DeletedWordCall.Learnt κs (word, tt) r (word, tt) → DeletedWordMeets word r
-  pub deleted-word-one-answer : (word : ℕ) → One (DeletedWordMeets word)
-  pub caption-length-contract : (κs : _) (word r : ℕ) → CaptionLengthCall.Learnt κs (word, tt) r (word, tt) → CaptionLengthMeets word r
-  pub caption-length-one-answer : (word : ℕ) → One (CaptionLengthMeets word)
-  pub link-at-contract : (κs : _) (words entries : RefT (List ℕ)) (root cell r : ℕ)
-      → LinkAtCall.Learnt κs (words, (entries, (root, (cell, tt)))) r (words, (entries, (root, (cell, tt))))
-      → LinkAtMeets (now words) (now entries) root cell r
-  pub link-at-one-answer : (words entries : List ℕ) (root cell : ℕ) → One (LinkAtMeets words entries root cell)
+  -- plain(word)
+  pub plain-one-answer : (κs : _) (word : ℕ) → Gives (plainWord word) (λ r. PlainCall.Learnt κs (word, tt) r (word, tt))
+  -- deleted_word(word)
+  pub deleted-word-one-answer : (κs : _) (word : ℕ) → Gives (deletedWord word) (λ r. DeletedWordCall.Learnt κs (word, tt) r (word, tt))
+  -- caption_length(word)
+  pub caption-length-one-answer : (κs : _) (word : ℕ) → Gives (captionLength word) (λ r. CaptionLengthCall.Learnt κs (word, tt) r (word, tt))
+  -- link_at(words, entries, root, cell)
+  pub link-at-one-answer : (κs : _) (words entries : RefT (List ℕ)) (root cell : ℕ)
+      → Gives (linkIn root (now words) (now entries) cell) (λ r. LinkAtCall.Learnt κs (words, (entries, (root, (cell, tt)))) r (words, (entries, (root, (cell, tt)))))

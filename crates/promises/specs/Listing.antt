@@ -1,27 +1,32 @@
 -- The calls that write the listing's lines, as `Store` has its calls; and what an answer of `recover` is listed as.
-use Prim.Native.Nat.{ℕ}
+use Prim.Native.Nat.{ℕ, _≤_}
 use mathlib.Core.Path.{_≡_}
 use mathlib.Core.List.{List, _++_}
-use lib.ListN.{take, drop}
+use lib.ListN.{length, take, drop}
 use denote.Ref.{RefT, now}
 use Rattle.refusal.specs.declared.Refusal.{Refusal}
 use Rattle.refusal.specs.declared.Written.{Written}
 use Rattle.refusal.specs.declared.Written.the-variants as Writes
 use Rattle.refusal.specs.Refusal.{writtenTold}
 use Rattle.fields.specs.Fields.{Bytes}
+use Rattle.rows.specs.Rows.{rowAt}
 use Rattle.rows.specs.declared.Node.{Node}
+use Rattle.meaning.specs.Records.{seen}
 use Rattle.meaning.specs.Recovery.{recover}
 use Rattle.meaning.specs.Calls.{outputAfter}
 use Rattle.recovery.specs.declared.Recovery.{Recovery}
 use Rattle.recovery.specs.declared.RecoveryInfo.{RecoveryInfo}
 use Rattle.recovery.specs.declared.Recovery.the-variants as Recoveries
-use Rattle.listing_text.specs.Lines.{firstLine, refusedLine}
-use Rattle.listing_text.specs.Listing.{nodeLines, listingText, firstLineCall, refusalLineCall, nodeLineCall}
+use Rattle.listing_text.specs.Lines.{ascii, named, newline, firstLine, refusedLine, nodeLine}
+use Rattle.listing_text.specs.Listing.{nodeLines, listingText, fitted, firstLineCall, refusalLineCall, nodeLineCall}
+use Rattle.listing_text.specs.Files.{listingFileLimit, listingRows, found, listingOf}
 use Rattle.listing_text.specs.declared.Heading.{Heading}
 use Rattle.listing_text.specs.declared.Stopped.{Stopped}
 use Rattle.listing_text.specs.declared.Stopped.the-variants as Stops
 use Rattle.listing_text.proofs.first_line.Reads as FirstLineCall
 use Rattle.listing_text.proofs.refusal_line.Reads as RefusalLineCall
+use Rattle.listing_text.proofs.number_line.Reads as NumberLineCall
+use Rattle.listing_text.proofs.log_line.Reads as LogLineCall
 use Rattle.listing_text.proofs.node_line.Reads as NodeLineCall
 use Rattle.promises.specs.OneAnswer.{OneEach}
 use Rattle.promises.specs.Recover.{Recovers, recordsShown}
@@ -35,6 +40,16 @@ pub record FirstLineMeets (heading : Heading) (out : List ℕ) (r : Written) (af
 pub record RefusalLineMeets (stopped : Stopped) (out : List ℕ) (r : Written) (after : List ℕ) : Type 0 where
   pub result-is : r ≡ writtenTold (refusalLineCall stopped out)
   pub output-is : after ≡ outputAfter out (refusalLineCall stopped out)
+
+-- number_line(words, n, out): as `first_line`
+pub record NumberLineMeets (words : List ℕ) (n : ℕ) (out : List ℕ) (r : Written) (after : List ℕ) : Type 0 where
+  pub result-is : r ≡ writtenTold (fitted out (named words n ++ newline))
+  pub output-is : after ≡ outputAfter out (fitted out (named words n ++ newline))
+
+-- log_line(number, at, out): as `first_line`
+pub record LogLineMeets (number at : ℕ) (out : List ℕ) (r : Written) (after : List ℕ) : Type 0 where
+  pub result-is : r ≡ writtenTold (fitted out (named (ascii "refused log ") number ++ (named (ascii " at ") at ++ newline)))
+  pub output-is : after ≡ outputAfter out (fitted out (named (ascii "refused log ") number ++ (named (ascii " at ") at ++ newline)))
 
 -- node_line(snapshot, log, rows, count, node, d, out): as `first_line`
 pub record NodeLineMeets (snapshot log rows : List ℕ) (count : ℕ) (node : Node) (d : ℕ) (out : List ℕ) (r : Written) (after : List ℕ) : Type 0 where
@@ -72,6 +87,12 @@ pub record ListingCalls : Type 0 where
   pub refusal-line-contract : (κs : _) (stopped : Stopped) (out : RefT (List ℕ)) (r : Written) (after : RefT (List ℕ))
       → RefusalLineCall.Learnt κs (stopped, (out, tt)) r (stopped, (after, tt)) → RefusalLineMeets stopped (now out) r (now after)
   pub refusal-line-one-answer : (stopped : Stopped) (out : List ℕ) → OneEach (RefusalLineMeets stopped out)
+  pub number-line-contract : (κs : _) (words : RefT (List ℕ)) (n : ℕ) (out : RefT (List ℕ)) (r : Written) (after : RefT (List ℕ))
+      → NumberLineCall.Learnt κs (words, (n, (out, tt))) r (words, (n, (after, tt))) → NumberLineMeets (now words) n (now out) r (now after)
+  pub number-line-one-answer : (words : List ℕ) (n : ℕ) (out : List ℕ) → OneEach (NumberLineMeets words n out)
+  pub log-line-contract : (κs : _) (number at : ℕ) (out : RefT (List ℕ)) (r : Written) (after : RefT (List ℕ))
+      → LogLineCall.Learnt κs (number, (at, (out, tt))) r (number, (at, (after, tt))) → LogLineMeets number at (now out) r (now after)
+  pub log-line-one-answer : (number at : ℕ) (out : List ℕ) → OneEach (LogLineMeets number at out)
   pub node-line-contract : (κs : _) (snapshot log rows : RefT (List ℕ)) (count : ℕ) (node : Node) (d : ℕ) (out : RefT (List ℕ)) (r : Written) (after : RefT (List ℕ))
       → NodeLineCall.Learnt κs (snapshot, (log, (rows, (count, (node, (d, (out, tt))))))) r (snapshot, (log, (rows, (count, (node, (d, (after, tt)))))))
       → NodeLineMeets (now snapshot) (now log) (now rows) count node d (now out) r (now after)
@@ -82,6 +103,9 @@ pub record ListingCalls : Type 0 where
       → LineLeft (firstLine heading) n out after
   pub refusal-line-left : (stopped : Stopped) (n : ℕ) (out after : List ℕ) → RefusalLineMeets stopped out (Writes.Bytes n) after
       → LineLeft (refusedLine stopped) n out after
+  pub node-line-left : (snapshot log rows : List ℕ) (count : ℕ) (node : Node) (d n : ℕ) (out after : List ℕ)
+      → NodeLineMeets snapshot log rows count node d out (Writes.Bytes n) after
+      → LineLeft (nodeLine (node .0) (seen d snapshot log (rowAt rows (node .0)))) n out after
   -- a refused call changes no byte
   pub first-line-untouched : (heading : Heading) (out : List ℕ) (why : Refusal) (after : List ℕ) → FirstLineMeets heading out (Writes.Refused why) after → after ≡ out
   pub refusal-line-untouched : (stopped : Stopped) (out : List ℕ) (why : Refusal) (after : List ℕ) → RefusalLineMeets stopped out (Writes.Refused why) after → after ≡ out
@@ -90,3 +114,7 @@ pub record ListingCalls : Type 0 where
   -- what an answer is listed as is the listing that is defined
   pub listing-shown : (lent : ℕ) (snapshot log : List ℕ) → Bytes snapshot → Bytes log → (r : Recovery) (words : List ℕ) → Recovers lent snapshot log r words
       → listingShown snapshot log r words ≡ listingText snapshot log (recover lent snapshot log)
+  -- lent the rows of a listing, over two files that it lists, it is the listing of the two files
+  pub listing-of-files : (snapshot log : List ℕ) → Bytes snapshot → Bytes log → length snapshot ≤ listingFileLimit → length log ≤ listingFileLimit
+      → (r : Recovery) (words : List ℕ) → Recovers listingRows snapshot log r words
+      → listingShown snapshot log r words ≡ listingOf (found snapshot) (found log)

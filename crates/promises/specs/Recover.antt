@@ -1,5 +1,4 @@
--- The call `recover`: `RecoverMeets` is what its contract says of a result and of what was lent, in the contract's own words;
--- `recover-contract`: what a caller learns from the contract in the source is this; `recover-one-answer`: nothing is left to choose. And what an answer shows with the row words beside it.
+-- The call `recover`, told as `OneAnswer` says; and what an answer shows with the row words beside it.
 use Prim.Native.Nat.{ℕ, _+_}
 use mathlib.Core.Path.{_≡_}
 use mathlib.Core.List.{List, map}

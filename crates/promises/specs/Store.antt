@@ -1,7 +1,5 @@
--- The store's calls: reading a snapshot, lookup and views, the two writers, the two encoders, a frame of a log.
--- Of each call: `…Meets` is what its contract says of a result and of what was lent, in the
--- contract's own words; `…-contract`: what a caller learns from the contract in the source is this; `…-one-answer`: nothing is left to
--- choose. A view is a slice: its bytes, and the place of the first (`ptr`).
+-- The store's calls, each told as `OneAnswer` says: reading a snapshot, lookup and views, the two writers, the two encoders, a frame of a
+-- log. A view is a slice: its bytes, and the place of the first (`ptr`).
 use Prim.Native.Nat.{ℕ}
 use mathlib.Core.Path.{_≡_}
 use mathlib.Core.List.{List}
@@ -13,17 +11,16 @@ use Rattle.layout.specs.declared.Extent.the-variants.{Full, Compacted}
 use Rattle.layout.specs.declared.Shape.the-variants.{Single, Batch}
 use Rattle.rows.specs.declared.Node.{Node}
 use Rattle.rows.specs.declared.Id.{Id}
+use Rattle.sources.specs.declared.Shown.{Shown}
 use Rattle.sources.specs.declared.Shown.the-variants.{Caption, Vector}
 use Rattle.sources.specs.Sources.{bytesOf, startOf}
 use Rattle.meaning.specs.Snapshot.{readHeader}
 use Rattle.meaning.specs.Views.{lookup, view, given}
 use Rattle.meaning.specs.Calls.{readCall, readTables, writeCall, encodeCall, frameCall, outputAfter}
-use Rattle.snapshot.specs.declared.ReadHeader.{ReadHeader}
 use Rattle.snapshot.specs.declared.ReadSnapshot.{ReadSnapshot}
 use Rattle.snapshot.specs.Told.{headerTold, readTold}
 use Rattle.views.specs.declared.Found.{Found}
-use Rattle.views.specs.Told.{foundTold}
-use Rattle.log.specs.declared.ReadFrame.{ReadFrame}
+use Rattle.views.specs.Told.{foundTold, viewed}
 use Rattle.log.specs.Told.{frameTold}
 use Rattle.snapshot.proofs.read_header.Reads as ReadHeaderCall
 use Rattle.snapshot.proofs.read_snapshot.Reads as ReadSnapshotCall
@@ -35,15 +32,12 @@ use Rattle.writer.proofs.write_compacted_snapshot.Reads as WriteCompactedCall
 use Rattle.encoder.proofs.encode_frame.Reads as EncodeFrameCall
 use Rattle.encoder.proofs.encode_batch.Reads as EncodeBatchCall
 use Rattle.log.proofs.frame_at.Reads as FrameAtCall
+use Rattle.views.proofs.view.Reads as ViewCall
 use Rattle.views.proofs.caption_view.Reads as CaptionViewCall
 use Rattle.views.proofs.vector_view.Reads as VectorViewCall
-use Rattle.promises.specs.OneAnswer.{One, OneEach, OneOfThree, OneView}
+use Rattle.promises.specs.OneAnswer.{One, OneEach, OneOfThree, OneView, Gives}
 
 -- ---- snapshot
--- read_header(bytes)
-pub record ReadHeaderMeets (bytes : List ℕ) (r : ReadHeader) : Type 0 where
-  pub result-is : r ≡ headerTold (readHeader bytes)
-
 -- read_snapshot(bytes, rows, active): the answer, the row words and the active entries after
 pub record ReadSnapshotMeets (bytes rows active : List ℕ) (r : ReadSnapshot) (rows' active' : List ℕ) : Type 0 where
   pub result-is : r ≡ readTold (readCall rows active bytes)
@@ -51,9 +45,9 @@ pub record ReadSnapshotMeets (bytes rows active : List ℕ) (r : ReadSnapshot) (
   pub active-is : active' ≡ readTables rows active (readCall rows active bytes) .active
 
 pub record SnapshotCalls : Type 0 where
-  pub read-header-contract : (κs : _) (bytes : RefT (List ℕ)) (r : ReadHeader) → ReadHeaderCall.Learnt κs (bytes, tt) r (bytes, tt)
-      → ReadHeaderMeets (now bytes) r
-  pub read-header-one-answer : (bytes : List ℕ) → One (ReadHeaderMeets bytes)
+  -- read_header(bytes)
+  pub read-header-one-answer : (κs : _) (bytes : RefT (List ℕ))
+      → Gives (headerTold (readHeader (now bytes))) (λ r. ReadHeaderCall.Learnt κs (bytes, tt) r (bytes, tt))
   pub read-snapshot-contract : (κs : _) (bytes rows active : RefT (List ℕ)) (r : ReadSnapshot) (rows' active' : RefT (List ℕ))
       → ReadSnapshotCall.Learnt κs (bytes, (rows, (active, tt))) r (bytes, (rows', (active', tt)))
       → ReadSnapshotMeets (now bytes) (now rows) (now active) r (now rows') (now active')
@@ -63,14 +57,6 @@ pub record SnapshotCalls : Type 0 where
 -- lookup(rows, count, id)
 pub record LookupMeets (rows : List ℕ) (count : ℕ) (id : Id) (r : Found) : Type 0 where
   pub result-is : r ≡ foundTold (lookup rows count (id .0))
-
--- caption_number(snapshot, log, rows, count, node, d)
-pub record CaptionNumberMeets (snapshot log rows : List ℕ) (count : ℕ) (node : Node) (d r : ℕ) : Type 0 where
-  pub result-is : r ≡ numberTold (view Caption d rows count (node .0) snapshot log)
-
--- vector_number(snapshot, log, rows, count, node, d)
-pub record VectorNumberMeets (snapshot log rows : List ℕ) (count : ℕ) (node : Node) (d r : ℕ) : Type 0 where
-  pub result-is : r ≡ numberTold (view Vector d rows count (node .0) snapshot log)
 
 -- caption_view(snapshot, log, rows, count, node, d): the bytes of the part, and the place of the first
 pub record CaptionViewMeets (snapshot log : RefT (List ℕ)) (rows : List ℕ) (count : ℕ) (node : Node) (d : ℕ) (r : RefT (List ℕ)) : Type 0 where
@@ -86,16 +72,15 @@ pub record ViewsCalls : Type 0 where
   pub lookup-contract : (κs : _) (rows : RefT (List ℕ)) (count : ℕ) (id : Id) (r : Found)
       → LookupCall.Learnt κs (rows, (count, (id, tt))) r (rows, (count, (id, tt))) → LookupMeets (now rows) count id r
   pub lookup-one-answer : (rows : List ℕ) (count : ℕ) (id : Id) → One (LookupMeets rows count id)
-  pub caption-number-contract : (κs : _) (snapshot log rows : RefT (List ℕ)) (count : ℕ) (node : Node) (d r : ℕ)
-      → CaptionNumberCall.Learnt κs (snapshot, (log, (rows, (count, (node, (d, tt)))))) r (snapshot, (log, (rows, (count, (node, (d, tt))))))
-      → CaptionNumberMeets (now snapshot) (now log) (now rows) count node d r
-  pub caption-number-one-answer : (snapshot log rows : List ℕ) (count : ℕ) (node : Node) (d : ℕ)
-      → One (CaptionNumberMeets snapshot log rows count node d)
-  pub vector-number-contract : (κs : _) (snapshot log rows : RefT (List ℕ)) (count : ℕ) (node : Node) (d r : ℕ)
-      → VectorNumberCall.Learnt κs (snapshot, (log, (rows, (count, (node, (d, tt)))))) r (snapshot, (log, (rows, (count, (node, (d, tt))))))
-      → VectorNumberMeets (now snapshot) (now log) (now rows) count node d r
-  pub vector-number-one-answer : (snapshot log rows : List ℕ) (count : ℕ) (node : Node) (d : ℕ)
-      → One (VectorNumberMeets snapshot log rows count node d)
+  -- view(shown, snapshot, log, rows, count, node, d)
+  pub view-one-answer : (κs : _) (shown : Shown) (snapshot log rows : RefT (List ℕ)) (count : ℕ) (node : Node) (d : ℕ)
+      → Gives (viewed (view shown d (now rows) count (node .0) (now snapshot) (now log))) (λ r. ViewCall.Learnt κs (shown, (snapshot, (log, (rows, (count, (node, (d, tt))))))) r (shown, (snapshot, (log, (rows, (count, (node, (d, tt))))))))
+  -- caption_number(snapshot, log, rows, count, node, d)
+  pub caption-number-one-answer : (κs : _) (snapshot log rows : RefT (List ℕ)) (count : ℕ) (node : Node) (d : ℕ)
+      → Gives (numberTold (view Caption d (now rows) count (node .0) (now snapshot) (now log))) (λ r. CaptionNumberCall.Learnt κs (snapshot, (log, (rows, (count, (node, (d, tt)))))) r (snapshot, (log, (rows, (count, (node, (d, tt)))))))
+  -- vector_number(snapshot, log, rows, count, node, d)
+  pub vector-number-one-answer : (κs : _) (snapshot log rows : RefT (List ℕ)) (count : ℕ) (node : Node) (d : ℕ)
+      → Gives (numberTold (view Vector d (now rows) count (node .0) (now snapshot) (now log))) (λ r. VectorNumberCall.Learnt κs (snapshot, (log, (rows, (count, (node, (d, tt)))))) r (snapshot, (log, (rows, (count, (node, (d, tt)))))))
   pub caption-view-contract : (κs : _) (snapshot log rows : RefT (List ℕ)) (count : ℕ) (node : Node) (d : ℕ) (r : RefT (List ℕ))
       → CaptionViewCall.Learnt κs (snapshot, (log, (rows, (count, (node, (d, tt)))))) r (snapshot, (log, (rows, (count, (node, (d, tt))))))
       → CaptionViewMeets snapshot log (now rows) count node d r
@@ -154,11 +139,7 @@ pub record EncoderCalls : Type 0 where
       → OneEach (EncodeBatchMeets config sequence operations coordinates captions out)
 
 -- ---- log
--- frame_at(config, log, previous, at)
-pub record FrameAtMeets (config : Config) (log : List ℕ) (previous at : ℕ) (r : ReadFrame) : Type 0 where
-  pub result-is : r ≡ frameTold (frameCall config log previous at)
-
 pub record LogCalls : Type 0 where
-  pub frame-at-contract : (κs : _) (config : Config) (log : RefT (List ℕ)) (previous at : ℕ) (r : ReadFrame)
-      → FrameAtCall.Learnt κs (config, (log, (previous, (at, tt)))) r (config, (log, (previous, (at, tt)))) → FrameAtMeets config (now log) previous at r
-  pub frame-at-one-answer : (config : Config) (log : List ℕ) (previous at : ℕ) → One (FrameAtMeets config log previous at)
+  -- frame_at(config, log, previous, at)
+  pub frame-at-one-answer : (κs : _) (config : Config) (log : RefT (List ℕ)) (previous at : ℕ)
+      → Gives (frameTold (frameCall config (now log) previous at)) (λ r. FrameAtCall.Learnt κs (config, (log, (previous, (at, tt)))) r (config, (log, (previous, (at, tt)))))

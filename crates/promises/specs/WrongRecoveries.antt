@@ -73,13 +73,17 @@ module _ (f : AnyRecovery) where
       → (S : Snapshot) → readSnapshot (rowsLent rows active) snapshot ≡ answer S
       → (i .replayed ≡ length (above (S .sequence) (framesOf (S .config) log .frames))) × (i .skipped ≡ length (upTo (S .sequence) (framesOf (S .config) log .frames)))
 
+-- no recovery that keeps the contract is like this
+abbrev pub ShutOut : (AnyRecovery → Type 0) → Type 0
+ShutOut Wrong = (f : AnyRecovery) → Keeps f → Wrong f → ⊥
+
 pub record WrongRecoveries : Type 0 where
-  pub refuses-all : (f : AnyRecovery) → Keeps f → RefusesAll f → ⊥
-  pub one-constant : (f : AnyRecovery) → Keeps f → OneConstant f → ⊥
-  pub same-records : (f : AnyRecovery) → Keeps f → SameRecords f → ⊥
-  pub same-rows : (f : AnyRecovery) → Keeps f → SameRows f → ⊥
-  pub writes-no-row : (f : AnyRecovery) → Keeps f → WritesNoRow f → ⊥
-  pub writes-no-entry : (f : AnyRecovery) → Keeps f → WritesNoEntry f → ⊥
-  pub first-frame-only : (f : AnyRecovery) → Keeps f → FirstFrameOnly f → ⊥
-  pub first-replayed-only : (f : AnyRecovery) → Keeps f → FirstReplayedOnly f → ⊥
+  pub refuses-all : ShutOut RefusesAll
+  pub one-constant : ShutOut OneConstant
+  pub same-records : ShutOut SameRecords
+  pub same-rows : ShutOut SameRows
+  pub writes-no-row : ShutOut WritesNoRow
+  pub writes-no-entry : ShutOut WritesNoEntry
+  pub first-frame-only : ShutOut FirstFrameOnly
+  pub first-replayed-only : ShutOut FirstReplayedOnly
   pub counts-the-frames : (f : AnyRecovery) → Keeps f → CountsTheFrames f

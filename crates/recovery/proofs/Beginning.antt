@@ -12,7 +12,7 @@ use Rattle.tree.specs.declared.Tree.{Tree}
 use Rattle.tree.specs.Grown.{Grown, Once}
 use Rattle.tree_meaning.specs.Holds.{Holds}
 use Rattle.tree_meaning.proofs.TreeMeans.{holds-front, holds-plain, once-means}
-use Rattle.replay.specs.Stands.{Stands}
+use Rattle.replay.specs.Stands.{TableStands}
 use Rattle.recovery.specs.Run.{Left}
 
 module _ (info : SnapshotInfo) (words entries : List ℕ) (rows : List Row) (l : Left info words entries rows) where
@@ -32,7 +32,7 @@ module _ (info : SnapshotInfo) (words entries : List ℕ) (rows : List Row) (l :
   few-records = let n = l .counted in let e = l .enough in omega arith
 
   pub first-stands : (t : Tree) (words₁ entries₁ : List ℕ) → Grown t words₁ entries₁ → t .count ≡ info .records → plainRows words₁ ≡ plainRows words
-      → Stands (info .config .dimensions) words₁ entries₁ (record { tree = t; size = info .size }) rows
+      → TableStands (info .config .dimensions) words₁ entries₁ (record { tree = t; size = info .size }) rows
   first-stands t words₁ entries₁ g n p =
       record {
         grown = g;

@@ -20,13 +20,13 @@ use Rattle.meaning.proofs.RowWords.{rows-of-words}
 use Rattle.links.specs.Links.{plainRows}
 use Rattle.tree.specs.Grown.{Once}
 use Rattle.tree_meaning.proofs.TreeMeans.{means-once, finished-table}
-use Rattle.replay.specs.Stands.{Stands}
+use Rattle.replay.specs.Stands.{TableStands}
 use Rattle.recovery.specs.Told.{recoveryAnswer, recoveredTold}
 use Rattle.recovery.specs.Run.{stateOf, endsIn, RecoversAs}
 use Rattle.recovery.specs.declared.Recovery.{Recovery}
 use Rattle.recovery.specs.declared.Reached.{Reached}
 
-module _ (info : SnapshotInfo) (log words entries : List ℕ) (r : Reached) (records : List Row) (s : Stands (info .config .dimensions) words entries (r .table) records)
+module _ (info : SnapshotInfo) (log words entries : List ℕ) (r : Reached) (records : List Row) (s : TableStands (info .config .dimensions) words entries (r .table) records)
     (words₁ : List ℕ) (plain : words₁ ≡ take (2 * r .table .tree .count) (plainRows words) ++ drop (2 * r .table .tree .count) words) where
   table-is : words₁ ≡ rowWords records ++ drop (2 * length records) words
   table-is = finished-table (r .table .tree .count) words words₁ records plain (s .counted) (s .holds)

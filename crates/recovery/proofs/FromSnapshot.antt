@@ -1,43 +1,28 @@
 -- What a snapshot's reading leaves, from its answer.
-use Prim.Native.Nat.{ℕ, _/_, _<_, _≤_, min}
+use Prim.Native.Nat.{ℕ, _/_, _≤_, min}
 use native.Mathlib.Omega.{arith}
 use mathlib.Core.Path.{_≡_, refl, sym, ap, ap₂, subst, _∙_}
-use mathlib.Core.Bool.{Bool, cond}
-use mathlib.Core.List.{List, [], _∷_}
-use borrow.Author.Tests.{lt-ltb, le-ltb}
+use mathlib.Core.List.{List}
 use lib.ListN.{length}
-use Rattle.config.specs.Limits.{maxRecords, maxLogBytes}
+use Rattle.config.specs.Limits.{maxRecords}
 use Rattle.rows.specs.Lent.{rowsLent}
-use Rattle.rows.specs.declared.Row.{Row}
 use Rattle.refusal.specs.Refusal.{Result, answer, refused}
 use Rattle.refusal.specs.declared.Refusal.{Refusal}
-use Rattle.refusal.specs.declared.Refusal.the-variants.{LogTooLong}
 use Rattle.snapshot.specs.Told.{readTold}
 use Rattle.snapshot.specs.declared.SnapshotInfo.{SnapshotInfo}
 use Rattle.snapshot.specs.declared.ReadSnapshot.{ReadSnapshot}
 use Rattle.snapshot.specs.declared.ReadSnapshot.the-variants as Snapshots
-use Rattle.snapshot.proofs.AcceptedFile.{InSnapshot, accepted}
+use Rattle.snapshot.proofs.BodyLaws.{InSnapshot, parts-within}
 use Rattle.meaning.specs.Calls.{readCall, readTables}
-use Rattle.meaning.specs.Every.{Every}
 use Rattle.meaning.specs.Records.{rowKind}
-use Rattle.meaning.specs.Recovery.{Recovery, refusedLog, withSnapshot, recover, liveCount}
+use Rattle.meaning.specs.Recovery.{liveCount}
 use Rattle.meaning.specs.Replay.{size}
-use Rattle.meaning.specs.Snapshot.{Snapshot, readSnapshot}
+use Rattle.meaning.specs.Snapshot.{Snapshot}
 use Rattle.meaning.specs.Tables.{rowWords, activeNodes, filled}
-use Rattle.tree_meaning.proofs.RowFacts.{Spares}
+use Rattle.meaning.proofs.EveryLaws.{every-map}
+use Rattle.meaning.proofs.SnapshotRead.{snapshot-facts}
+use Rattle.tree_meaning.specs.Spares.{Spares}
 use Rattle.recovery.specs.Run.{Left, snapshotRead}
-
--- ---- 20 before everything
-abbrev tested : ℕ → List ℕ → List ℕ → Bool → Recovery
-tested lent snapshot log t = cond t (refusedLog LogTooLong 0) (withSnapshot lent log (readSnapshot lent snapshot))
-
-pub too-long : (lent : ℕ) (snapshot log : List ℕ) → maxLogBytes < length log → recover lent snapshot log ≡ refusedLog LogTooLong 0
-unfolding recover
-too-long lent snapshot log h = ap (tested lent snapshot log) (lt-ltb _ _ h)
-
-pub short-enough : (lent : ℕ) (snapshot log : List ℕ) → length log ≤ maxLogBytes → recover lent snapshot log ≡ withSnapshot lent log (readSnapshot lent snapshot)
-unfolding recover
-short-enough lent snapshot log h = ap (tested lent snapshot log) (le-ltb _ _ h)
 
 -- ---- what is told of a snapshot
 abbrev infoFor : Snapshot → SnapshotInfo
@@ -76,11 +61,6 @@ pub snapshot-refused : (r : Result Snapshot) (why : Refusal) → readTold r ≡ 
 snapshot-refused (answer x) why e = absurd (subst IsAccepted e tt)
 snapshot-refused (refused w) why e = ap refused (ap (whyOr why) e)
 
--- a snapshot's offsets leave the spare bits free
-all-spare : (rows : List Row) → Every InSnapshot rows → Every Spares rows
-all-spare [] all = tt
-all-spare (r ∷ rs) all = let h = all .0 in (omega arith, all-spare rs (all .1))
-
 pub lent-same : (words entries words′ entries′ : List ℕ) → length words′ ≡ length words → length entries′ ≡ length entries → rowsLent words′ entries′ ≡ rowsLent words entries
 lent-same words entries words′ entries′ a b = ap₂ (λ (m n : ℕ). min (min (m / 2) maxRecords) n) a b
 
@@ -94,7 +74,8 @@ module _ (words entries snapshot : List ℕ) (info : SnapshotInfo) (f : Snapshot
       → Left info words₁ entries₁ (f .value .rows)
   left-by-reading words₁ entries₁ a b p q =
       let x = f .value in
-      let k = accepted (rowsLent words entries) snapshot x (f .is) in
+      let read = snapshot-facts (rowsLent words entries) snapshot x (f .is) in
+      let k = parts-within (rowsLent words entries) snapshot x (read .parts) in
       let lent = lent-same words entries words₁ entries₁ a b in
       subst (λ (i : SnapshotInfo). Left i words₁ entries₁ (x .rows)) (sym (f .told))
       (record {
@@ -105,8 +86,8 @@ module _ (words entries snapshot : List ℕ) (info : SnapshotInfo) (f : Snapshot
         small = k .sized;
         enough = subst (λ (n : ℕ). length (x .rows) ≤ n) (sym lent) (k .enough);
         packs = k .packs;
-        spares = all-spare (x .rows) (k .offsets);
-        once = k .once;
+        spares = every-map InSnapshot Spares (λ r h. omega arith) (x .rows) (k .offsets);
+        once = read .once;
         rows-are = p ∙ ap (λ (r : Result Snapshot). readTables words entries r .rows) (f .is) ∙ ap (λ (n : ℕ). filled n (rowWords (x .rows))) (sym a);
         active-are = q ∙ ap (λ (r : Result Snapshot). readTables words entries r .active) (f .is) ∙ ap (λ (n : ℕ). filled n (activeNodes (x .rows))) (sym b);
       })

@@ -13,9 +13,10 @@ use Rattle.snapshot.proofs.Outcome.{no-words}
 use Rattle.meaning.specs.Calls.{recoverTables}
 use Rattle.meaning.specs.Records.{rowKind}
 use Rattle.meaning.specs.Recovery as Meant
+use Rattle.meaning.specs.Log.{framesAt}
 use Rattle.meaning.specs.Replay.{Kind, Frame, End, tail, bad, State, Outcome, reached, stopped, Bounds, step, run, onward}
 use Rattle.meaning.specs.Tables.{Tables, rowWords, liveFrom}
-use Rattle.meaning.proofs.FramesAt.{framesAt, tail-bounds}
+use Rattle.meaning.proofs.FramesAt.{tail-bounds}
 use Rattle.recovery.specs.Told.{recoveryAnswer}
 use Rattle.recovery.specs.Run.{runFrom, skippedOnly, Reaches, ReachedAs, Left, endsIn, RecoversAs}
 use Rattle.recovery.specs.declared.Recovery.{Recovery}

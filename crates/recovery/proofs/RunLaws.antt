@@ -18,10 +18,10 @@ use Rattle.meaning.specs.Records.{rowKind}
 use Rattle.meaning.specs.Replay.{Frame, Frames, State, Outcome, reached, stopped, Bounds, skip, play, onward, applyAll, replayFrame, step, run, replay}
 use Rattle.meaning.proofs.FrameRead.{frame-bounds}
 use Rattle.meaning.proofs.FramesAt.{frames-of, frames-at-tail, frames-at-bad, frames-at-found}
-use Rattle.log.specs.Told.{frameOf, frameTold}
+use Rattle.log.specs.Told.{frameFound, frameTold}
 use Rattle.log.specs.declared.Frame.{Frame as LogFrame}
 use Rattle.log.specs.declared.ReadFrame.the-variants as Reads
-use Rattle.replay.specs.Stands.{Stands, Kept, Follows}
+use Rattle.replay.specs.Stands.{TableStands, Kept, AppliedAs}
 use Rattle.replay.specs.declared.Table.{Table}
 use Rattle.replay.specs.declared.Applied.{Applied}
 use Rattle.replay.specs.declared.Applied.the-variants as Applieds
@@ -36,7 +36,7 @@ use Rattle.recovery.specs.declared.Replayed.the-variants as Replays
 pub record WasRead (c : Config) (log : List ℕ) (previous at : ℕ) (frame : LogFrame) : Type 0 where
   pub meant : Frame Row
   pub there : frameAt c log previous at ≡ found meant (frame .next)
-  pub told : frame ≡ frameOf meant (frame .next)
+  pub told : frame ≡ frameFound meant (frame .next)
 
 module _ (c : Config) (log : List ℕ) (previous at : ℕ) where
   pub told-whole : (frame : LogFrame) → Reads.Whole frame ≡ frameTold (frameAt c log previous at) → WasRead c log previous at frame
@@ -46,9 +46,9 @@ module _ (c : Config) (log : List ℕ) (previous at : ℕ) where
       go tooLittle h g = absurd (let z : _≡_ {A = ℕ} 0 1 = cc in omega arith)
       go (wrong why) h g = absurd (let z : _≡_ {A = ℕ} 0 1 = cc in omega arith)
       go (found f next) h g =
-          let same : frame ≡ frameOf f next = cc in
+          let same : frame ≡ frameFound f next = cc in
           let next-is : next ≡ frame .next = sym (ap (λ (x : LogFrame). x .next) same) in
-          record { meant = f; there = h ∙ ap (found f) next-is; told = same ∙ ap (frameOf f) next-is }
+          record { meant = f; there = h ∙ ap (found f) next-is; told = same ∙ ap (frameFound f) next-is }
 
   pub told-little : Reads.TooLittle ≡ frameTold (frameAt c log previous at) → frameAt c log previous at ≡ tooLittle
   told-little e = go (frameAt c log previous at) e
@@ -76,7 +76,7 @@ pub record Found (log : List ℕ) (at : ℕ) (frame : LogFrame) (f : Frame Row) 
   pub start-is : frame .start ≡ at
 
 pub found-facts : (c : Config) (log : List ℕ) (previous at : ℕ) (frame : LogFrame) (f : Frame Row)
-    → frameAt c log previous at ≡ found f (frame .next) → frame ≡ frameOf f (frame .next) → Found log at frame f
+    → frameAt c log previous at ≡ found f (frame .next) → frame ≡ frameFound f (frame .next) → Found log at frame f
 found-facts c log previous at frame f there told =
     let b = frame-bounds c log previous at f (frame .next) there in
     let sequence-is : f .sequence ≡ frame .sequence = sym (ap (λ (x : LogFrame). x .sequence) told) in
@@ -222,7 +222,7 @@ module _ (c : Config) (log : List ℕ) (bounds : Bounds) (snapshot : ℕ) (frame
   same-sequence : f .sequence ≡ frame .sequence
   same-sequence = is-facts c log frame f i .sequence-is
 
-  pub leaves-skipped : (words entries : List ℕ) → frame .sequence ≤ snapshot → Stands (c .dimensions) words entries (r .table) rows
+  pub leaves-skipped : (words entries : List ℕ) → frame .sequence ≤ snapshot → TableStands (c .dimensions) words entries (r .table) rows
       → Leaves skippedHere words entries
   leaves-skipped words entries h s =
       let same = same-sequence in
@@ -243,12 +243,12 @@ module _ (c : Config) (log : List ℕ) (bounds : Bounds) (snapshot : ℕ) (frame
     plays : step (rowKind (c .dimensions)) bounds snapshot f (stateOf r rows) ≡ (applied >>= λ records. answer (play f (stateOf r rows) records))
     plays = let same = same-sequence in step-plays (c .dimensions) bounds snapshot f (stateOf r rows) (omega arith) (omega arith)
 
-    pub leaves-played : (x : Applied) (t : Table) (words entries : List ℕ) → x ≡ Applieds.Went t → Follows (c .dimensions) applied x words entries
+    pub leaves-played : (x : Applied) (t : Table) (words entries : List ℕ) → x ≡ Applieds.Went t → AppliedAs (c .dimensions) applied x words entries
         → Leaves (playedHere t) words entries
     leaves-played x t words entries e s =
-        subst (λ y. LeavesBy y (playedHere t) words entries) (sym plays) (go applied (subst (λ y. Follows (c .dimensions) applied y words entries) e s))
+        subst (λ y. LeavesBy y (playedHere t) words entries) (sym plays) (go applied (subst (λ y. AppliedAs (c .dimensions) applied y words entries) e s))
       where
-        go : (y : Result (List Row)) → Follows (c .dimensions) y (Applieds.Went t) words entries
+        go : (y : Result (List Row)) → AppliedAs (c .dimensions) y (Applieds.Went t) words entries
             → LeavesBy (y >>= λ records. answer (play f (stateOf r rows) records)) (playedHere t) words entries
         go (answer records) s =
             let same = same-sequence in
@@ -262,12 +262,12 @@ module _ (c : Config) (log : List ℕ) (bounds : Bounds) (snapshot : ℕ) (frame
             }
         go (refused why) s = s
 
-    pub leaves-refused : (x : Applied) (why : Refusal) (words entries : List ℕ) → x ≡ Applieds.Refused why → Follows (c .dimensions) applied x words entries
+    pub leaves-refused : (x : Applied) (why : Refusal) (words entries : List ℕ) → x ≡ Applieds.Refused why → AppliedAs (c .dimensions) applied x words entries
         → Leaves (refusedHere why) words entries
     leaves-refused x why words entries e s =
-        subst (λ y. LeavesBy y (refusedHere why) words entries) (sym plays) (go applied (subst (λ y. Follows (c .dimensions) applied y words entries) e s))
+        subst (λ y. LeavesBy y (refusedHere why) words entries) (sym plays) (go applied (subst (λ y. AppliedAs (c .dimensions) applied y words entries) e s))
       where
-        go : (y : Result (List Row)) → Follows (c .dimensions) y (Applieds.Refused why) words entries
+        go : (y : Result (List Row)) → AppliedAs (c .dimensions) y (Applieds.Refused why) words entries
             → LeavesBy (y >>= λ records. answer (play f (stateOf r rows) records)) (refusedHere why) words entries
         go (answer records) s = s
         go (refused w) s = (s, refl)
@@ -277,7 +277,7 @@ module _ (c : Config) (log : List ℕ) (bounds : Bounds) (snapshot : ℕ) (frame
 pub record On (c : Config) (log : List ℕ) (bounds : Bounds) (snapshot : ℕ) (r₀ : Reached) (previous₀ : ℕ) (rows₀ : List Row)
     (words entries : List ℕ) (r : Reached) (previous : ℕ) : Type 0 where
   pub rows : List Row
-  pub stands : Stands (c .dimensions) words entries (r .table) rows
+  pub stands : TableStands (c .dimensions) words entries (r .table) rows
   pub same : runFrom c log bounds snapshot previous₀ (r₀ .keep) (stateOf r₀ rows₀) ≡ runFrom c log bounds snapshot previous (r .keep) (stateOf r rows)
 
 -- where the loop stands, and that for all rows
@@ -288,7 +288,7 @@ pub record Going (c : Config) (log : List ℕ) (bounds : Bounds) (snapshot : ℕ
   pub words-kept : length words ≡ length words₀
   pub entries-kept : length entries ≡ length entries₀
   pub kept : Kept (c .dimensions) words entries (r .table)
-  pub on : (rows₀ : List Row) → Stands (c .dimensions) words₀ entries₀ (r₀ .table) rows₀ → On c log bounds snapshot r₀ previous₀ rows₀ words entries r previous
+  pub on : (rows₀ : List Row) → TableStands (c .dimensions) words₀ entries₀ (r₀ .table) rows₀ → On c log bounds snapshot r₀ previous₀ rows₀ words entries r previous
 
 -- the rows that one frame leaves, by the rows before
 pub record Stepped (d : ℕ) (words entries : List ℕ) (x : Result (State Row)) (next : ℕ) (r : Reached) : Type 0 where

@@ -8,21 +8,20 @@ use Rattle.refusal.specs.Refusal.{Result, answer, refused}
 use Rattle.config.specs.Limits.{maxDimensions, maxSnapshotBytes}
 use Rattle.config.specs.declared.Config.{Config}
 use Rattle.rows.specs.Lent.{rowsLent}
+use Rattle.rows.specs.Rows.{RowFits}
 use Rattle.rows.specs.declared.Row.{Row}
 use Rattle.meaning.specs.Calls.{recoverTables}
 use Rattle.meaning.specs.Every.{Every}
-use Rattle.meaning.specs.Log.{framesOf}
+use Rattle.meaning.specs.Log.{framesOf, framesAt}
 use Rattle.meaning.specs.Records.{rowKind}
 use Rattle.meaning.specs.Recovery as Meant
 use Rattle.meaning.specs.Recovery.{liveCount, ended}
 use Rattle.meaning.specs.Replay.{State, Outcome, reached, stopped, Bounds, size, run, replay}
 use Rattle.meaning.specs.Snapshot.{Snapshot, liveTwice}
 use Rattle.meaning.specs.Tables.{rowWords, activeNodes, filled}
-use Rattle.meaning.proofs.FramesAt.{framesAt}
-use Rattle.meaning.proofs.RowWords.{Packs}
 use Rattle.snapshot.specs.declared.SnapshotInfo.{SnapshotInfo}
-use Rattle.tree_meaning.proofs.RowFacts.{Spares}
-use Rattle.replay.specs.Stands.{Stands}
+use Rattle.tree_meaning.specs.Spares.{Spares}
+use Rattle.replay.specs.Stands.{TableStands}
 use Rattle.recovery.specs.Told.{recoveryAnswer}
 use Rattle.recovery.specs.declared.Recovery.{Recovery}
 use Rattle.recovery.specs.declared.Reached.{Reached}
@@ -55,7 +54,7 @@ stateOf r rows = record { records = rows; sequence = r .sequence; replayed = r .
 
 -- a state is reached, and its rows stand
 pub record ReachedAs (d : ℕ) (words entries : List ℕ) (s : State Row) (keep : ℕ) (r : Reached) : Type 0 where
-  pub stands : Stands d words entries (r .table) (s .records)
+  pub stands : TableStands d words entries (r .table) (s .records)
   pub state-is : stateOf r (s .records) ≡ s
   pub keep-is : r .keep ≡ keep
 
@@ -81,7 +80,7 @@ pub record Left (info : SnapshotInfo) (words entries : List ℕ) (rows : List Ro
   pub sized : info .size ≡ size (rowKind (info .config .dimensions)) rows
   pub small : info .size ≤ maxSnapshotBytes
   pub enough : length rows ≤ rowsLent words entries
-  pub packs : Every Packs rows
+  pub packs : Every RowFits rows
   pub spares : Every Spares rows
   pub once : liveTwice rows ≡ false
   pub rows-are : words ≡ filled (length words) (rowWords rows)

@@ -21,7 +21,7 @@ ghost use Rattle.meaning.specs.Records.{rowKind};
 ghost use Rattle.meaning.specs.Recovery.{boundsFor, ended, replayLog};
 ghost use Rattle.meaning.specs.Replay.{Frame as MeantFrame, Bounds, step as stepOf};
 ghost use Rattle.log.specs.Stored.{IsFrame, FrameThere};
-ghost use Rattle.replay.specs.Stands.{Stands, Kept};
+ghost use Rattle.replay.specs.Stands.{TableStands, Kept};
 ghost use Rattle.recovery.specs.Told.{recoveryAnswer, recoveredTold};
 ghost use Rattle.recovery.specs.Run.{runFrom, skippedOnly, SkipsTo, stateOf, Steps, Reaches, Left, SomeLeft, snapshotRead, endsIn, RecoversAs};
 use config::Config;
@@ -156,7 +156,7 @@ fn step(
     requires { ⌜ FrameThere config (now log) frame ⌝ }
     requires { ⌜ reached .replayed + reached .skipped ≤ frame .start ⌝ }
     requires { ⌜ Kept (config .dimensions) (now words) (now entries) (reached .table) ⌝ }
-    ensures { λ r. ⌜ ((f : MeantFrame Row) (rows : List Row) → IsFrame config (now (log .entry)) frame f → Stands (config .dimensions) (now (words .entry)) (now (entries .entry)) (reached .table) rows → Steps (config .dimensions) (frame .next) (frame .start) (stepOf (rowKind (config .dimensions)) (boundsFor lent) snapshot f (stateOf reached rows)) r (now (words .exit)) (now (entries .exit))) ⌝ }
+    ensures { λ r. ⌜ ((f : MeantFrame Row) (rows : List Row) → IsFrame config (now (log .entry)) frame f → TableStands (config .dimensions) (now (words .entry)) (now (entries .entry)) (reached .table) rows → Steps (config .dimensions) (frame .next) (frame .start) (stepOf (rowKind (config .dimensions)) (boundsFor lent) snapshot f (stateOf reached rows)) r (now (words .exit)) (now (entries .exit))) ⌝ }
 {
     let table = reached.table;
     if frame.sequence <= snapshot {
@@ -203,7 +203,7 @@ fn replay_frames(
     requires { ⌜ 2 * lent ≤ length (now words) ⌝ }
     requires { ⌜ lent ≤ length (now entries) ⌝ }
     requires { ⌜ Kept (config .dimensions) (now words) (now entries) table ⌝ }
-    ensures { λ r. ⌜ ((rows : List Row) → Stands (config .dimensions) (now (words .entry)) (now (entries .entry)) table rows → Reaches (config .dimensions) (runFrom config (now (log .entry)) (boundsFor lent) snapshot (place .previous) (place .at) (skippedOnly snapshot rows (place .skipped))) r (now (words .exit)) (now (entries .exit))) ⌝ }
+    ensures { λ r. ⌜ ((rows : List Row) → TableStands (config .dimensions) (now (words .entry)) (now (entries .entry)) table rows → Reaches (config .dimensions) (runFrom config (now (log .entry)) (boundsFor lent) snapshot (place .previous) (place .at) (skippedOnly snapshot rows (place .skipped))) r (now (words .exit)) (now (entries .exit))) ⌝ }
 {
     let mut reached = Reached {
         table,
@@ -270,7 +270,7 @@ fn finish(
 ) -> Recovery
     requires { ⌜ reached .keep ≤ length (now log) ⌝ }
     requires { ⌜ Kept (info .config .dimensions) (now rows) (now active) (reached .table) ⌝ }
-    ensures { λ r. ⌜ ((records : List Row) → Stands (info .config .dimensions) (now (rows .entry)) (now (active .entry)) (reached .table) records → RecoversAs (now (log .entry)) (now (rows .entry)) (now (active .entry)) (endsIn info (stateOf reached records) (reached .keep)) r (now (rows .exit)) (now (active .exit))) ⌝ }
+    ensures { λ r. ⌜ ((records : List Row) → TableStands (info .config .dimensions) (now (rows .entry)) (now (active .entry)) (reached .table) records → RecoversAs (now (log .entry)) (now (rows .entry)) (now (active .entry)) (endsIn info (stateOf reached records) (reached .keep)) r (now (rows .exit)) (now (active .exit))) ⌝ }
 {
     let table = reached.table;
     let tree = table.tree;

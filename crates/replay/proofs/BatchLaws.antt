@@ -2,56 +2,42 @@
 use Prim.Native.Nat.{ℕ, _+_, _-_, _≤_, _<_}
 use native.Mathlib.Omega.{arith}
 use mathlib.Core.Path.{_≡_, refl, sym, ap, subst, _∙_}
-use mathlib.Core.Bool.{Bool, true, false, cond}
 use mathlib.Core.List.{List, [], _∷_}
 use borrow.Author.Tests.{ltb-false}
-use lib.Dec.{ltb, eqb}
+use lib.Dec.{ltb}
 use lib.ListN.{length}
-use Rattle.refusal.specs.Refusal.{Result, answer, refused, _>>=_}
+use Rattle.refusal.specs.Refusal.{Result, answer, refused}
 use Rattle.refusal.specs.declared.Refusal.{Refusal}
-use Rattle.refusal.specs.declared.Refusal.the-variants.{PastTheEnd, UnknownOperation}
-use Rattle.refusal.proofs.Results.{passed, went, go-on, give-up, answer-injective, refused-no-answer}
+use Rattle.refusal.specs.declared.Refusal.the-variants.{PastTheEnd}
+use Rattle.refusal.proofs.Results.{passed, went, go-on, give-up, answer-injective}
 use Rattle.config.specs.Limits.{maxLogBytes}
 use Rattle.config.specs.declared.Config.{Config}
 use Rattle.fields.specs.Fields.{num}
 use Rattle.layout.specs.declared.Shape.{Shape}
 use Rattle.layout.specs.declared.Shape.the-variants.{Batch}
-use Rattle.rows.specs.Rows.{RowFits}
 use Rattle.rows.specs.declared.Row.{Row}
-use Rattle.meaning.specs.Item.{itemAt}
-use Rattle.meaning.specs.Log.{ReadOperation, ReadOperations, putRow, operationAt, operationsAt}
+use Rattle.meaning.specs.Log.{ReadOperation, ReadOperations, operationAt, operationsAt}
 use Rattle.meaning.specs.Records.{rowKind}
 use Rattle.meaning.specs.Recovery.{boundsFor}
-use Rattle.meaning.specs.Replay.{Operation, remove, applyOne, applyAll}
-use Rattle.items.proofs.ItemLaws.{item-within}
+use Rattle.meaning.specs.Replay.{Operation, applyOne, applyAll}
+use Rattle.meaning.proofs.OperationRead.{OperationHere, putHere, removeHere, operation-read}
 use Rattle.log.specs.Told.{operationRead}
-use Rattle.log.specs.Stored.{StoredAll}
 use Rattle.log.proofs.OperationLaws.{no-more, one-more, andThen}
-use Rattle.replay.specs.Stands.{Stands, Kept, Accepted, Follows}
+use Rattle.replay.specs.Stands.{TableStands, Kept, Applicable, AppliedAs}
 use Rattle.replay.specs.declared.Applied.the-variants as Applieds
 use Rattle.replay.specs.declared.Table.{Table}
 
 -- ---- an operation that was accepted may be applied
 pub operation-accepted : (c : Config) (log : List ℕ) (end tag at : ℕ) (x : ReadOperation) → end ≤ maxLogBytes
-    → operationAt c log end tag at ≡ answer x → Accepted (operationRead x)
-unfolding operationAt
-operation-accepted c log end tag at x few e =
-    let s = went PastTheEnd (ltb end (at + 8)) _ x e in
-    tagged (eqb tag 1) (eqb tag 2) (s .then)
+    → operationAt c log end tag at ≡ answer x → Applicable (operationRead x)
+operation-accepted c log end tag at x few e = go (operation-read c log end tag at x e)
   where
-    tagged : (one two : Bool)
-        → cond one (itemAt PastTheEnd c log end (at + 8) >>= λ n. answer (putRow c log at n))
-        (cond two (answer (record { operation = remove (num log at 8); next = at + 8 })) (refused UnknownOperation)) ≡ answer x
-        → Accepted (operationRead x)
-    tagged true two g =
-        let s = passed (itemAt PastTheEnd c log end (at + 8)) _ x g in
-        let w = item-within PastTheEnd c log end (at + 8) (s .value) (s .first) in
-        let inside = w .inside in
-        let short = w .few in
-        subst (λ (y : ReadOperation). Accepted (operationRead y)) (answer-injective _ x (s .then))
-        (record { caption-fits = omega arith; at-fits = omega arith }, omega arith)
-    tagged false true g = subst (λ (y : ReadOperation). Accepted (operationRead y)) (answer-injective _ x g) tt
-    tagged false false g = absurd (refused-no-answer UnknownOperation x g)
+    go : OperationHere c log end tag at x → Applicable (operationRead x)
+    go (putHere n t h i is) =
+        let inside = i .inside in
+        let short = i .short in
+        subst (λ (y : ReadOperation). Applicable (operationRead y)) (sym is) (record { caption-fits = omega arith; at-fits = omega arith }, omega arith)
+    go (removeHere t h is) = subst (λ (y : ReadOperation). Applicable (operationRead y)) (sym is) tt
 
 -- ---- the first of several
 pub record First (c : Config) (log : List ℕ) (end n at : ℕ) (all : ReadOperations) : Type 0 where
@@ -80,16 +66,16 @@ first-of c log end n at all h e =
 pub record Gone (d : ℕ) (x : Result (List Row)) (t : Table) (words entries : List ℕ) : Type 0 where
   pub rows : List Row
   pub is : x ≡ answer rows
-  pub stands : Stands d words entries t rows
+  pub stands : TableStands d words entries t rows
 
-pub went-on : (d : ℕ) (x : Result (List Row)) (t : Table) (words entries : List ℕ) → Follows d x (Applieds.Went t) words entries → Gone d x t words entries
+pub went-on : (d : ℕ) (x : Result (List Row)) (t : Table) (words entries : List ℕ) → AppliedAs d x (Applieds.Went t) words entries → Gone d x t words entries
 went-on d (answer rows) t words entries s = record { rows = rows; is = refl; stands = s }
 went-on d (refused why) t words entries s = absurd s
 
-pub kept-went : (d : ℕ) (x : Result (List Row)) (t : Table) (words entries : List ℕ) → Follows d x (Applieds.Went t) words entries → Kept d words entries t
+pub kept-went : (d : ℕ) (x : Result (List Row)) (t : Table) (words entries : List ℕ) → AppliedAs d x (Applieds.Went t) words entries → Kept d words entries t
 kept-went d x t words entries f = let g = went-on d x t words entries f in record { rows = g .rows; stands = g .stands }
 
-pub refused-on : (d : ℕ) (x : Result (List Row)) (why : Refusal) (words entries : List ℕ) → Follows d x (Applieds.Refused why) words entries → x ≡ refused why
+pub refused-on : (d : ℕ) (x : Result (List Row)) (why : Refusal) (words entries : List ℕ) → AppliedAs d x (Applieds.Refused why) words entries → x ≡ refused why
 refused-on d (answer rows) why words entries s = absurd s
 refused-on d (refused w) why words entries s = ap refused (sym s)
 
@@ -117,7 +103,7 @@ none-left c log end n at all h e = sym (ap (λ (y : ReadOperations). y .operatio
 -- ---- where a batch stands: what is left of it, applied to the rows that stand now, is all of it applied to those that stood
 pub record On (d lent : ℕ) (shape : Shape) (words entries : List ℕ) (t : Table) (left all : List (Operation Row)) (rows₀ : List Row) : Type 0 where
   pub rows : List Row
-  pub stands : Stands d words entries t rows
+  pub stands : TableStands d words entries t rows
   pub same : applyAll (rowKind d) (boundsFor lent) shape left rows ≡ applyAll (rowKind d) (boundsFor lent) shape all rows₀
 
 pub record Turning (c : Config) (log : List ℕ) (end n at lent : ℕ) (words₀ entries₀ : List ℕ) (t₀ : Table) (words entries : List ℕ) (t : Table) (next left : ℕ) : Type 0 where
@@ -126,19 +112,19 @@ pub record Turning (c : Config) (log : List ℕ) (end n at lent : ℕ) (words₀
   pub rest : ReadOperations
   pub rest-is : operationsAt left c log end next ≡ answer rest
   pub kept : Kept (c .dimensions) words entries t
-  pub on : (x : ReadOperations) (rows₀ : List Row) → operationsAt n c log end at ≡ answer x → Stands (c .dimensions) words₀ entries₀ t₀ rows₀
+  pub on : (x : ReadOperations) (rows₀ : List Row) → operationsAt n c log end at ≡ answer x → TableStands (c .dimensions) words₀ entries₀ t₀ rows₀
       → On (c .dimensions) lent Batch words entries t (rest .operations) (x .operations) rows₀
 
 -- one of them applied
 module _ (d lent : ℕ) (words entries : List ℕ) (t : Table) (o : Operation Row) (left all : List (Operation Row)) (rows₀ : List Row) where
   pub on-went : (words′ entries′ : List ℕ) (t′ : Table) (b : On d lent Batch words entries t (o ∷ left) all rows₀)
-      → Follows d (applyOne (rowKind d) (boundsFor lent) Batch o (b .rows)) (Applieds.Went t′) words′ entries′ → On d lent Batch words′ entries′ t′ left all rows₀
+      → AppliedAs d (applyOne (rowKind d) (boundsFor lent) Batch o (b .rows)) (Applieds.Went t′) words′ entries′ → On d lent Batch words′ entries′ t′ left all rows₀
   on-went words′ entries′ t′ b f =
       let g = went-on d (applyOne (rowKind d) (boundsFor lent) Batch o (b .rows)) t′ words′ entries′ f in
       record { rows = g .rows; stands = g .stands; same = sym (apply-on d lent Batch o left (b .rows) (g .rows) (g .is)) ∙ b .same }
 
   pub on-stops : (words′ entries′ : List ℕ) (why : Refusal) (b : On d lent Batch words entries t (o ∷ left) all rows₀)
-      → Follows d (applyOne (rowKind d) (boundsFor lent) Batch o (b .rows)) (Applieds.Refused why) words′ entries′
+      → AppliedAs d (applyOne (rowKind d) (boundsFor lent) Batch o (b .rows)) (Applieds.Refused why) words′ entries′
       → applyAll (rowKind d) (boundsFor lent) Batch all rows₀ ≡ refused why
   on-stops words′ entries′ why b f =
       sym (b .same) ∙ apply-stops d lent Batch o left (b .rows) why (refused-on d (applyOne (rowKind d) (boundsFor lent) Batch o (b .rows)) why words′ entries′ f)

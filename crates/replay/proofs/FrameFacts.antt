@@ -1,26 +1,23 @@
 -- The operations of a frame that was read, where they lie.
-use Prim.Native.Nat.{ℕ, _+_, _-_, _/_, _≤_}
+use Prim.Native.Nat.{ℕ, _+_, _-_, _≤_}
 use native.Mathlib.Omega.{arith}
-use mathlib.Core.Path.{_≡_, refl, sym, ap, subst, _∙_}
+use mathlib.Core.Path.{_≡_, refl, sym, ap, _∙_}
 use mathlib.Core.List.{List, [], _∷_}
-use lib.Dec.{ltb}
 use lib.ListN.{length}
 use Rattle.refusal.specs.Refusal.{Result, answer, refused, _>>=_}
-use Rattle.refusal.specs.declared.Refusal.the-variants.{WrongBatchCount}
-use Rattle.refusal.proofs.Results.{passed, went, answer-injective}
-use Rattle.config.specs.Limits.{maxBatchOperations}
 use Rattle.config.specs.declared.Config.{Config}
 use Rattle.fields.specs.Fields.{num}
 use Rattle.layout.specs.Layout.{frameLength}
 use Rattle.layout.specs.declared.Shape.{Shape}
 use Rattle.layout.specs.declared.Shape.the-variants.{Single, Batch}
 use Rattle.rows.specs.declared.Row.{Row}
-use Rattle.meaning.specs.Log.{ReadOperation, ReadOperations, operationAt, operationsAt, batchAt, singleAt, shapeOf, operationsOf}
+use Rattle.meaning.specs.Log.{ReadOperation, ReadOperations, operationAt, operationsAt, shapeOf, operationsOf}
 use Rattle.meaning.specs.Records.{rowKind}
 use Rattle.meaning.specs.Recovery.{boundsFor}
 use Rattle.meaning.specs.Replay.{Operation, applyOne, applyAll}
 use Rattle.meaning.specs.Replay as Replays
 use Rattle.meaning.proofs.FrameRead.{frame-read, frame-bounds, payload-read}
+use Rattle.meaning.proofs.OperationRead.{batch-read, single-read}
 use Rattle.log.specs.declared.Frame.{Frame}
 use Rattle.log.specs.Stored.{IsFrame}
 use Rattle.log.proofs.OperationLaws.{as-many}
@@ -63,20 +60,15 @@ module _ (c : Config) (log : List ℕ) (end opcode at : ℕ) (x : ReadOperations
     pub alone : x .operations ≡ this .operation ∷ []
 
   pub single-stored : operationsOf Single c log end opcode at ≡ answer x → Alone
-  unfolding singleAt
   single-stored e =
-      let s = passed (operationAt c log end opcode at) _ x e in
-      record { this = s .value; is = s .first; alone = sym (ap (λ (y : ReadOperations). y .operations) (answer-injective _ x (s .then))) }
+      let s = single-read c log end opcode at x e in
+      record { this = s .this; is = s .this-read; alone = ap (λ (y : ReadOperations). y .operations) (s .all-is) }
 
   -- those of a batch, behind their count
   pub batch-stored : operationsOf Batch c log end opcode at ≡ answer x → operationsAt (length (x .operations)) c log end (at + 4) ≡ answer x
-  unfolding batchAt
   batch-stored e =
-      let n = num log at 4 in
-      let s1 = went WrongBatchCount (ltb n 1) _ x e in
-      let s2 = went WrongBatchCount (ltb maxBatchOperations n) _ x (s1 .then) in
-      let s3 = went WrongBatchCount (ltb ((end - (at + 4)) / 9) n) _ x (s2 .then) in
-      ap (λ (k : ℕ). operationsAt k c log end (at + 4)) (as-many c log end n (at + 4) x (s3 .then)) ∙ s3 .then
+      let here = batch-read c log end at x e .operations-here in
+      ap (λ (k : ℕ). operationsAt k c log end (at + 4)) (as-many c log end (num log at 4) (at + 4) x here) ∙ here
 
 -- one operation is all of them
 pub apply-alone : (d lent : ℕ) (shape : Shape) (o : Operation Row) (rows : List Row)

@@ -1,5 +1,5 @@
 -- The rows that stand in lent memory: one of them marked, one appended.
-use Prim.Native.Nat.{ℕ, _+_, _*_, _-_, _≤_, _<_, zero-le}
+use Prim.Native.Nat.{ℕ, _+_, _*_, _-_, _≤_, _<_}
 use native.Mathlib.Omega.{arith}
 use mathlib.Core.Path.{_≡_, refl, sym, ap, subst, _∙_}
 use mathlib.Core.Bool.{Bool, true, false, cond}
@@ -17,17 +17,17 @@ use Rattle.layout.specs.declared.Shape.{Shape}
 use Rattle.rows.specs.Rows.{RowFits, rowWord}
 use Rattle.rows.specs.declared.Row.{Row}
 use Rattle.meaning.specs.Every.{Every}
-use Rattle.meaning.specs.Replay.{liveAs, active, mark, size, absent, applyPut, applyRemove}
+use Rattle.meaning.proofs.EveryLaws.{every-append}
+use Rattle.meaning.specs.Replay.{liveAs, mark, size, absent, applyPut, applyRemove}
 use Rattle.meaning.specs.Recovery.{boundsFor}
-use Rattle.meaning.proofs.Marking.{mark-none}
-use Rattle.meaning.proofs.RowWords.{Packs}
+use Rattle.meaning.proofs.Marking.{mark-none, size-push}
 use Rattle.meaning.specs.Records.{rowKind, deleteRow}
 use Rattle.links.specs.Links.{plainRows}
-use Rattle.tree.specs.Grown.{Grown, Finds, found, none, Once, Marked, Added, cellOf}
+use Rattle.tree.specs.Grown.{Finds, Once, Marked, Added, cellOf}
 use Rattle.tree.specs.declared.Tree.{Tree}
-use Rattle.tree_meaning.proofs.RowFacts.{Spares}
+use Rattle.tree_meaning.specs.Spares.{Spares}
 use Rattle.tree_meaning.proofs.TreeMeans.{length-mark, mark-packs, finds-active, marked-table, added-table}
-use Rattle.replay.specs.Stands.{Stands, TakenOut, Follows}
+use Rattle.replay.specs.Stands.{TableStands, TakenOut, AppliedAs}
 use Rattle.replay.specs.declared.Applied.the-variants as Applieds
 use Rattle.replay.specs.declared.Table.{Table}
 use Rattle.replay.specs.declared.Outed.{Outed}
@@ -41,13 +41,9 @@ mark-spares d id (r ∷ rs) all = (go (liveAs (rowKind d) id r), mark-spares d i
     go true = all .0
     go false = all .0
 
-pub found-within : (rows : List ℕ) (n id u : ℕ) → Finds rows n id u → u ≤ n
-found-within rows n id u (found p q l e) = q
-found-within rows n id u (none a) = zero-le
-
 -- what a mark takes off the size, where these rows stand
 module _ (d : ℕ) (words words′ entries : List ℕ) (t : Table) (rows : List Row) (id u freed : ℕ)
-    (s : Stands d words entries t rows) (m : Marked words words′ u freed) (f : Finds (plainRows words) (t .tree .count) id u) where
+    (s : TableStands d words entries t rows) (m : Marked words words′ u freed) (f : Finds (plainRows words) (t .tree .count) id u) where
   rows-found : Finds (plainRows words) (length rows) id u
   rows-found = subst (λ (n : ℕ). Finds (plainRows words) n id u) (s .counted) f
 
@@ -79,13 +75,13 @@ module _ (d : ℕ) (words words′ entries : List ℕ) (t : Table) (rows : List 
         absent = m .absent (t .tree .count) id (s .grown .once) f;
       }
 
--- ---- what follows an operation
-pub follows-refused : (d : ℕ) (x : Result (List Row)) (why : Refusal) (words entries : List ℕ) → x ≡ refused why → Follows d x (Applieds.Refused why) words entries
-follows-refused d x why words entries e = subst (λ (y : Result (List Row)). Follows d y (Applieds.Refused why) words entries) (sym e) refl
+-- ---- what an operation leaves
+pub applied-refused : (d : ℕ) (x : Result (List Row)) (why : Refusal) (words entries : List ℕ) → x ≡ refused why → AppliedAs d x (Applieds.Refused why) words entries
+applied-refused d x why words entries e = subst (λ (y : Result (List Row)). AppliedAs d y (Applieds.Refused why) words entries) (sym e) refl
 
-pub follows-went : (d : ℕ) (x : Result (List Row)) (rows : List Row) (t : Table) (words entries : List ℕ) → x ≡ answer rows → Stands d words entries t rows
-    → Follows d x (Applieds.Went t) words entries
-follows-went d x rows t words entries e s = subst (λ (y : Result (List Row)). Follows d y (Applieds.Went t) words entries) (sym e) s
+pub applied-went : (d : ℕ) (x : Result (List Row)) (rows : List Row) (t : Table) (words entries : List ℕ) → x ≡ answer rows → TableStands d words entries t rows
+    → AppliedAs d x (Applieds.Went t) words entries
+applied-went d x rows t words entries e s = subst (λ (y : Result (List Row)). AppliedAs d y (Applieds.Went t) words entries) (sym e) s
 
 -- ---- a delete
 module _ (d id : ℕ) (words entries : List ℕ) (t : Table) (o : Outed) (rows : List Row) (k : TakenOut d id words entries t o rows) where
@@ -97,20 +93,11 @@ module _ (d id : ℕ) (words entries : List ℕ) (t : Table) (o : Outed) (rows :
   unfolding applyRemove
   not-there h shape = rw (k .told, le-ltb 0 (o .link) h) refl
 
-  pub unmarked : o .link ≤ 0 → Stands d words entries (record { tree = t .tree; size = o .size }) rows
+  pub unmarked : o .link ≤ 0 → TableStands d words entries (record { tree = t .tree; size = o .size }) rows
   unmarked h =
-      subst (Stands d words entries (record { tree = t .tree; size = o .size })) (mark-none (rowKind d) id rows (k .told ∙ le-ltb 0 (o .link) h)) (k .stands)
+      subst (TableStands d words entries (record { tree = t .tree; size = o .size })) (mark-none (rowKind d) id rows (k .told ∙ le-ltb 0 (o .link) h)) (k .stands)
 
 -- ---- a put
-every-behind : (P : Row → Type 0) (rows : List Row) (r : Row) → Every P rows → P r → Every P (rows ++ (r ∷ []))
-every-behind P [] r all p = (p, tt)
-every-behind P (x ∷ xs) r all p = (all .0, every-behind P xs r (all .1) p)
-
-size-behind : (d : ℕ) (rows : List Row) (r : Row) → size (rowKind d) (rows ++ (r ∷ [])) ≡ size (rowKind d) rows + recordLength d (r .«caption_length»)
-unfolding size
-size-behind d [] r = omega arith
-size-behind d (x ∷ xs) r = let e = size-behind d xs r in omega arith
-
 module _ (d lent : ℕ) (r : Row) (words entries : List ℕ) (t : Table) (o : Outed) (rows : List Row) (k : TakenOut d (r .id .0) words entries t o rows) where
   abbrev pub putOn : Result (List Row)
   putOn = applyPut (rowKind d) (boundsFor lent) r rows
@@ -155,20 +142,20 @@ module _ (d lent : ℕ) (r : Row) (words entries : List ℕ) (t : Table) (o : Ou
       -- the row appended
       pub put-stands : (t′ : Tree) (words′ entries′ : List ℕ) → RowFits r → Spares r → 2 * t .tree .count + 2 ≤ length words
           → Added (t .tree) words entries t′ words′ entries′ (r .id .0) (rowWord r)
-          → Stands d words′ entries′ (record { tree = t′; size = newSize }) (mark (rowKind d) (r .id .0) rows ++ (r ∷ []))
+          → TableStands d words′ entries′ (record { tree = t′; size = newSize }) (mark (rowKind d) (r .id .0) rows ++ (r ∷ []))
       put-stands t′ words′ entries′ p s room a =
           let old : List Row = mark (rowKind d) (r .id .0) rows in
           let n = length-append old (r ∷ []) in
           let counted = a .counted in
           let before = k .stands .counted in
           let sized = k .stands .sized in
-          let more = size-behind d old r in
+          let more = size-push (rowKind d) old r in
           record {
             grown = a .grown;
             holds = added-table (t .tree) words entries t′ words′ entries′ old r a before s room (k .stands .holds);
             counted = omega arith;
-            packs = every-behind Packs old r (k .stands .packs) p;
-            spares = every-behind Spares old r (k .stands .spares) s;
+            packs = every-append RowFits old (r ∷ []) (k .stands .packs) (p, tt);
+            spares = every-append Spares old (r ∷ []) (k .stands .spares) (s, tt);
             sized = omega arith;
             small = omega arith;
           }

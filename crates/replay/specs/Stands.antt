@@ -1,6 +1,5 @@
 -- What replay keeps: rows in lent memory, with the tree that finds them and their encoded size; and what an operation leaves.
-use Prim.Native.Nat.{ℕ, _+_, _≤_}
-use mathlib.Core.Bool.{Bool}
+use Prim.Native.Nat.{ℕ, _≤_}
 use mathlib.Core.List.{List}
 use mathlib.Core.Path.{_≡_}
 use lib.Dec.{ltb}
@@ -14,23 +13,21 @@ use Rattle.log.specs.declared.ReadOperation.the-variants as Operations
 use Rattle.meaning.specs.Every.{Every}
 use Rattle.meaning.specs.Replay.{active, mark, size}
 use Rattle.meaning.specs.Records.{rowKind}
-use Rattle.meaning.proofs.RowWords.{Packs}
 use Rattle.links.specs.Links.{plainRows}
 use Rattle.tree.specs.Grown.{Grown, cellOf, Absent}
-use Rattle.tree.specs.declared.Tree.{Tree}
 use Rattle.tree_meaning.specs.Holds.{Holds}
-use Rattle.tree_meaning.proofs.RowFacts.{Spares}
+use Rattle.tree_meaning.specs.Spares.{Spares}
 use Rattle.replay.specs.declared.Table.{Table}
 use Rattle.replay.specs.declared.Outed.{Outed}
 use Rattle.replay.specs.declared.Applied.{Applied}
 use Rattle.replay.specs.declared.Applied.the-variants as Applieds
 
 -- these rows, of d coordinates each, stand in the lent words and entries
-pub record Stands (d : ℕ) (words entries : List ℕ) (t : Table) (rows : List Row) : Type 0 where
+pub record TableStands (d : ℕ) (words entries : List ℕ) (t : Table) (rows : List Row) : Type 0 where
   pub grown : Grown (t .tree) words entries
   pub holds : Holds (plainRows words) rows
   pub counted : t .tree .count ≡ length rows
-  pub packs : Every Packs rows
+  pub packs : Every RowFits rows
   pub spares : Every Spares rows
   pub sized : t .size ≡ size (rowKind d) rows
   pub small : t .size ≤ maxSnapshotBytes
@@ -38,20 +35,20 @@ pub record Stands (d : ℕ) (words entries : List ℕ) (t : Table) (rows : List 
 -- some rows stand there
 pub record Kept (d : ℕ) (words entries : List ℕ) (t : Table) : Type 0 where
   pub rows : List Row
-  pub stands : Stands d words entries t rows
+  pub stands : TableStands d words entries t rows
 
 -- the live row of an ID taken out of such rows: it is marked, whether there was one is told, and the cell is where a new one goes
 pub record TakenOut (d id : ℕ) (words entries : List ℕ) (t : Table) (o : Outed) (rows : List Row) : Type 0 where
-  pub stands : Stands d words entries (record { tree = t .tree; size = o .size }) (mark (rowKind d) id rows)
+  pub stands : TableStands d words entries (record { tree = t .tree; size = o .size }) (mark (rowKind d) id rows)
   pub told : active (rowKind d) id rows ≡ ltb 0 (o .link)
   pub cell-is : o .cell ≡ cellOf (t .tree) words entries id
   pub absent : Absent (plainRows words) (t .tree .count) id
 
 -- an operation that may be applied: a put whose row leaves the spare bits free, or a delete
-abbrev pub Accepted : ReadOperation → Type 0
-Accepted (Operations.Put r next) = RowFits r × Spares r
-Accepted (Operations.Remove id next) = Unit
-Accepted (Operations.Refused why) = ⊥
+abbrev pub Applicable : ReadOperation → Type 0
+Applicable (Operations.Put r next) = RowFits r × Spares r
+Applicable (Operations.Remove id next) = Unit
+Applicable (Operations.Refused why) = ⊥
 
 -- where the one after it begins
 abbrev pub nextIn : ReadOperation → ℕ
@@ -60,8 +57,8 @@ nextIn (Operations.Remove id next) = next
 nextIn (Operations.Refused why) = 0
 
 -- what an operation leaves: the rows that replay defines, or its refusal
-abbrev pub Follows : ℕ → Result (List Row) → Applied → List ℕ → List ℕ → Type 0
-Follows d (answer rows) (Applieds.Went t) words entries = Stands d words entries t rows
-Follows d (answer rows) (Applieds.Refused why) words entries = ⊥
-Follows d (refused why) (Applieds.Went t) words entries = ⊥
-Follows d (refused why) (Applieds.Refused w) words entries = w ≡ why
+abbrev pub AppliedAs : ℕ → Result (List Row) → Applied → List ℕ → List ℕ → Type 0
+AppliedAs d (answer rows) (Applieds.Went t) words entries = TableStands d words entries t rows
+AppliedAs d (answer rows) (Applieds.Refused why) words entries = ⊥
+AppliedAs d (refused why) (Applieds.Went t) words entries = ⊥
+AppliedAs d (refused why) (Applieds.Refused w) words entries = w ≡ why

@@ -17,8 +17,8 @@ ghost use Rattle.log.specs.Stored.{StoredAll, FrameThere, IsFrame};
 ghost use Rattle.log.specs.Told.{operationRead};
 ghost use Rattle.meaning.specs.Records.{rowKind};
 ghost use Rattle.meaning.specs.Recovery.{boundsFor};
-ghost use Rattle.tree_meaning.proofs.RowFacts.{Spares};
-ghost use Rattle.replay.specs.Stands.{Stands, Kept, TakenOut, Accepted, nextIn, Follows};
+ghost use Rattle.tree_meaning.specs.Spares.{Spares};
+ghost use Rattle.replay.specs.Stands.{TableStands, Kept, TakenOut, Applicable, nextIn, AppliedAs};
 use config::Config;
 use layout::Shape;
 use log::Frame;
@@ -50,7 +50,7 @@ pub enum Applied {
 // Marks the live row of an ID deleted, if there is one.
 fn take_out(d: usize, words: &mut [u64], entries: &[u32], table: Table, id: u64) -> Outed
     requires { ⌜ Kept d (now words) (now entries) table ⌝ }
-    ensures { λ r. ⌜ ((rows : List Row) → Stands d (now (words .entry)) (now (entries .entry)) table rows → TakenOut d id (now (words .exit)) (now (entries .entry)) table r rows) ⌝ }
+    ensures { λ r. ⌜ ((rows : List Row) → TableStands d (now (words .entry)) (now (entries .entry)) table rows → TakenOut d id (now (words .exit)) (now (entries .entry)) table r rows) ⌝ }
 {
     let tree = table.tree;
     let place = tree::find(words, entries, tree, id);
@@ -79,7 +79,7 @@ fn put_row(
     requires { ⌜ RowFits row ⌝ }
     requires { ⌜ Spares row ⌝ }
     requires { ⌜ Kept d (now words) (now entries) table ⌝ }
-    ensures { λ r. ⌜ ((rows : List Row) → Stands d (now (words .entry)) (now (entries .entry)) table rows → Follows d (applyPut (rowKind d) (boundsFor lent) row rows) r (now (words .exit)) (now (entries .exit))) ⌝ }
+    ensures { λ r. ⌜ ((rows : List Row) → TableStands d (now (words .entry)) (now (entries .entry)) table rows → AppliedAs d (applyPut (rowKind d) (boundsFor lent) row rows) r (now (words .exit)) (now (entries .exit))) ⌝ }
 {
     let id = row.id;
     let out = take_out(d, words, entries, table, id.0);
@@ -109,7 +109,7 @@ fn remove_row(
     id: Id,
 ) -> Applied
     requires { ⌜ Kept d (now words) (now entries) table ⌝ }
-    ensures { λ r. ⌜ ((rows : List Row) → Stands d (now (words .entry)) (now (entries .entry)) table rows → Follows d (applyRemove (rowKind d) shape (id .0) rows) r (now (words .exit)) (now (entries .entry))) ⌝ }
+    ensures { λ r. ⌜ ((rows : List Row) → TableStands d (now (words .entry)) (now (entries .entry)) table rows → AppliedAs d (applyRemove (rowKind d) shape (id .0) rows) r (now (words .exit)) (now (entries .entry))) ⌝ }
 {
     let out = take_out(d, words, entries, table, id.0);
     let tree = table.tree;
@@ -136,9 +136,9 @@ fn apply_operation(
     requires { ⌜ d ≤ maxDimensions ⌝ }
     requires { ⌜ 2 * lent ≤ length (now words) ⌝ }
     requires { ⌜ lent ≤ length (now entries) ⌝ }
-    requires { ⌜ Accepted operation ⌝ }
+    requires { ⌜ Applicable operation ⌝ }
     requires { ⌜ Kept d (now words) (now entries) table ⌝ }
-    ensures { λ r. ⌜ ((x : Meant.ReadOperation) (rows : List Row) → operation ≡ operationRead x → Stands d (now (words .entry)) (now (entries .entry)) table rows → Follows d (applyOne (rowKind d) (boundsFor lent) shape (x .operation) rows) r (now (words .exit)) (now (entries .exit))) ⌝ }
+    ensures { λ r. ⌜ ((x : Meant.ReadOperation) (rows : List Row) → operation ≡ operationRead x → TableStands d (now (words .entry)) (now (entries .entry)) table rows → AppliedAs d (applyOne (rowKind d) (boundsFor lent) shape (x .operation) rows) r (now (words .exit)) (now (entries .exit))) ⌝ }
 {
     match operation {
         ReadOperation::Put(row, _) => put_row(d, lent, words, entries, table, row),
@@ -177,7 +177,7 @@ fn apply_batch(
     requires { ⌜ 2 * lent ≤ length (now words) ⌝ }
     requires { ⌜ lent ≤ length (now entries) ⌝ }
     requires { ⌜ Kept (config .dimensions) (now words) (now entries) table ⌝ }
-    ensures { λ r. ⌜ ((x : Meant.ReadOperations) (rows : List Row) → operationsAt n config (now (log .entry)) end at ≡ answer x → Stands (config .dimensions) (now (words .entry)) (now (entries .entry)) table rows → Follows (config .dimensions) (applyAll (rowKind (config .dimensions)) (boundsFor lent) Batch (x .operations) rows) r (now (words .exit)) (now (entries .exit))) ⌝ }
+    ensures { λ r. ⌜ ((x : Meant.ReadOperations) (rows : List Row) → operationsAt n config (now (log .entry)) end at ≡ answer x → TableStands (config .dimensions) (now (words .entry)) (now (entries .entry)) table rows → AppliedAs (config .dimensions) (applyAll (rowKind (config .dimensions)) (boundsFor lent) Batch (x .operations) rows) r (now (words .exit)) (now (entries .exit))) ⌝ }
 {
     let d = config.dimensions;
     let mut kept = table;
@@ -216,7 +216,7 @@ pub fn apply_frame(
     requires { ⌜ lent ≤ length (now entries) ⌝ }
     requires { ⌜ FrameThere config (now log) frame ⌝ }
     requires { ⌜ Kept (config .dimensions) (now words) (now entries) table ⌝ }
-    ensures { λ r. ⌜ ((f : Replays.Frame Row) (rows : List Row) → IsFrame config (now (log .entry)) frame f → Stands (config .dimensions) (now (words .entry)) (now (entries .entry)) table rows → Follows (config .dimensions) (applyAll (rowKind (config .dimensions)) (boundsFor lent) (f .shape) (f .operations) rows) r (now (words .exit)) (now (entries .exit))) ⌝ }
+    ensures { λ r. ⌜ ((f : Replays.Frame Row) (rows : List Row) → IsFrame config (now (log .entry)) frame f → TableStands (config .dimensions) (now (words .entry)) (now (entries .entry)) table rows → AppliedAs (config .dimensions) (applyAll (rowKind (config .dimensions)) (boundsFor lent) (f .shape) (f .operations) rows) r (now (words .exit)) (now (entries .exit))) ⌝ }
 {
     let d = config.dimensions;
     let start = frame.start;

@@ -25,9 +25,11 @@ use Rattle.crc32.proofs.Bytes.{crc-lt}
 use Rattle.theorems.proofs.Here.{part-here, num-here}
 use Rattle.meaning.specs.Every.{Every}
 use Rattle.meaning.proofs.LiveOnceLaws.{single-map, single-of-seen, live-twice-of-single}
-use Rattle.theorems.proofs.RecordBack.{Wide, Readable, all-shaped, all-wide, all-readable, allAt, length-records, records-back, records-seen, records-sourced, all-as-read, records-read}
+use Rattle.theorems.proofs.RecordBack.{Wide, all-shaped, all-wide, all-readable, allAt, length-records, records-back, records-seen, records-sourced, all-as-read, records-read}
 use Rattle.theorems.specs.FileRows.{asRead, fileRows}
-use Rattle.theorems.proofs.SnapshotFacts.{snapshot-reads, snapshotIn, snapshot-facts}
+use Rattle.theorems.proofs.ItemBack.{Readable}
+use Rattle.meaning.proofs.HeaderRead.{headerIn}
+use Rattle.meaning.proofs.SnapshotRead.{snapshot-reads, snapshotIn, snapshot-facts}
 use Rattle.theorems.specs.AnyFile.{headerOf, HeaderFits, bodyWith, fileWith, Shaped}
 use Rattle.theorems.proofs.HeaderBack.{length-any-header, header-fits, HeaderStands, header-stands, headerWith, header-back, header-seen}
 use Rattle.meaning.specs.LiveOnce.{LiveOnce}
@@ -106,14 +108,15 @@ file-with-back lent v c q rs a enough =
     let seen-are = records-seen d s [] (headerLength v) rs _ here shaped in
     let single = single-of-seen d d s [] rows (subst (LiveOnce (recordKind d)) (sym seen-are) (single-map (recordKind d) (recordKind d) asRead (λ r. refl) (λ r. refl) rs (a .single))) in
     let crc-is = f .crc-is in
-    snapshot-reads lent s (headerWith v c q n) (allAt (headerLength v) rs) (record {
+    snapshot-reads lent s (headerWith v c q n) (allAt (headerLength v) rs)
+    (record {
       header-is = eH;
       enough = enough;
       records-are = eR;
       ends = ends;
       crc-is = ap crcOf (f .body-is) ∙ sym crc-is;
-      once = live-twice-of-single d rows single;
     })
+    (live-twice-of-single d rows single)
     ∙ ap (λ (k : ℕ). answer (record { config = c; crc = k; sequence = q; rows = rows })) crc-is
 
 -- ---- the file that is written: version 2, deleted records without captions
@@ -186,9 +189,9 @@ pub file-read : (lent : ℕ) (v : Version) (c : Config) (q : ℕ) (rs : List Rec
 file-read lent v c q rs x fits shaped e =
     let s = fileWith v c q rs in
     let f = file-stands v c q rs fits in
-    let r = snapshot-facts lent s x e in
-    let h : r .header ≡ headerWith v c q (length rs) = header-seen v s c q (length rs) _ (r .header) (f .header) (r .facts .header-is) in
+    let r = snapshot-facts lent s x e .parts in
+    let h : headerIn (r .version) s (r .metric) ≡ headerWith v c q (length rs) = header-seen v s c q (length rs) _ _ (f .header) (r .facts .header-is) in
     let found-is : recordsAt (length rs) c s (bodyLength s) (headerLength v) ≡ answer (r .found) =
     ap (λ (y : Header). recordsAt (y .count) (y .config) s (bodyLength s) (y .first)) (sym h) ∙ r .facts .records-are in
     let g : r .found ≡ allAt (headerLength v) rs = records-read c s (bodyLength s) (headerLength v) rs _ (r .found) (f .header .behind) shaped found-is in
-    r .is ∙ ap₂ (snapshotIn s) h g ∙ ap (λ (k : ℕ). record { config = c; crc = k; sequence = q; rows = fileRows (headerLength v) rs }) (f .crc-is)
+    sym (r .is) ∙ ap₂ (snapshotIn s) h g ∙ ap (λ (k : ℕ). record { config = c; crc = k; sequence = q; rows = fileRows (headerLength v) rs }) (f .crc-is)

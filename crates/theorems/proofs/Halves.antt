@@ -4,10 +4,9 @@
 use Prim.Native.Nat.{ℕ, _+_, _-_, _≤_}
 use native.Mathlib.Omega.{arith}
 use mathlib.Core.Path.{_≡_, refl, sym, ap, ap₂, _∙_, subst}
-use mathlib.Core.Bool.{Bool, true, false}
+use mathlib.Core.Bool.{true}
 use mathlib.Core.List.{List, [], _∷_, _++_, map}
 use lib.ListN.{length, length-map, length-append}
-use lib.Dec.{ltb}
 use Rattle.fields.specs.Fields.{Bytes}
 use Rattle.fields.proofs.Numbers.{Bytes-left, Bytes-right}
 use Rattle.config.specs.Limits.{maxSnapshotBytes, maxLogBytes}
@@ -17,12 +16,12 @@ use Rattle.meaning.specs.Replay.{Frame, End, tail, Frames, State, Outcome, reac
 use Rattle.meaning.specs.Records.{Record, rowKind, seen}
 use Rattle.rows.specs.declared.Row.{Row}
 use Rattle.meaning.specs.Snapshot.{Snapshot, readSnapshot}
-use Rattle.meaning.specs.Log.{framesOf}
+use Rattle.meaning.specs.Log.{framesOf, framesAt}
 use Rattle.crc32.specs.Crc.{crcOf}
 use Rattle.meaning.specs.File.{fileOf, bodyBytes}
 use Rattle.meaning.specs.Recovery.{Recovered, recovered, boundsFor, ended, replayLog, recover}
 use Rattle.meaning.specs.Every.{Every}
-use Rattle.theorems.proofs.Every.{every-map}
+use Rattle.meaning.proofs.EveryLaws.{every-map}
 use Rattle.theorems.proofs.Ran.{reached-inj, reached-at, stopped≢reached}
 use Rattle.theorems.proofs.Moved.{laterRow, laterFrames}
 use Rattle.theorems.proofs.CutFrames as CutFrames
@@ -36,11 +35,9 @@ use Rattle.theorems.specs.FrameLists.{lastSequence}
 use Rattle.theorems.proofs.LogFit.{Logged, in-frames, frames-logged}
 use Rattle.theorems.proofs.Seen.{seen-any-snapshot, seen-front, sourced-front, seen-later}
 use Rattle.theorems.proofs.Weighed.{Weighed, weighedKind, weighed, weighed-carries, weigh, weighed-sourced, weighed-values, frames-alike, frames-composed, ends-composed}
-use Rattle.theorems.proofs.Recovering.{Accepted, accepted, frames-to-tail, replays-frames, recover-read, recover-long}
+use Rattle.theorems.proofs.Recovering.{Accepted, accepted, frames-to-tail, replays-frames, recover-read, recover-alike}
 use Rattle.theorems.proofs.AtTheCut.{numbered-rising, Standing, standing, standing-storable}
-use borrow.Author.Tests.{ltb-false}
 use Rattle.refusal.proofs.Results.{answer-injective}
-use Rattle.meaning.proofs.FramesAt.{framesAt}
 use Rattle.theorems.proofs.SnapshotFit.{seen-fit}
 use Rattle.theorems.specs.Compared.{Compared, compared, brief, accepts, refuses, holds}
 use Rattle.theorems.specs.Cut.{fullSnapshot}
@@ -176,17 +173,11 @@ module _ (lent : ℕ) (snapshot front rest : List ℕ) (r : Recovered) (bs : Byt
         ∙ replay-carried (rowKind d) J h (weighed-carries d snapshot log) L same (a .read .sequence) (a .read .rows) (framesOf c log))
 
     whole-log : compared written log (recover lent written log) ≡ compared snapshot log (recover lent snapshot log)
-    whole-log = go (ltb maxLogBytes (length log)) refl
-      where
-        go : (b : Bool) → ltb maxLogBytes (length log) ≡ b → compared written log (recover lent written log) ≡ compared snapshot log (recover lent snapshot log)
-        go true e = ap (compared written log) (recover-long lent written log e) ∙ sym (ap (compared snapshot log) (recover-long lent snapshot log e))
-        go false e =
-            let n = ltb-false maxLogBytes (length log) e in
-            ap (compared written log) (recover-read lent written log W read-back n)
-            ∙ compared-weighed written log W (replay (rowKind d) (boundsFor lent) q (fileRows 52 records) (framesOf c log))
-            ∙ ap (compareWeighed c log) same-replay
-            ∙ sym (compared-weighed snapshot log (a .read) (replay (rowKind d) (boundsFor lent) (a .read .sequence) (a .read .rows) (framesOf c log)))
-            ∙ sym (ap (compared snapshot log) (recover-read lent snapshot log (a .read) (a .reads) n))
+    whole-log =
+        recover-alike (compared written log) (compared snapshot log) lent written snapshot log W (a .read) read-back (a .reads) refl
+        (compared-weighed written log W (replay (rowKind d) (boundsFor lent) q (fileRows 52 records) (framesOf c log))
+        ∙ ap (compareWeighed c log) same-replay
+        ∙ sym (compared-weighed snapshot log (a .read) (replay (rowKind d) (boundsFor lent) (a .read .sequence) (a .read .rows) (framesOf c log))))
 
     -- where the old pair was accepted: the written snapshot beside the rest
     module _ (u : Recovered) (old : Accepted lent snapshot log u) where

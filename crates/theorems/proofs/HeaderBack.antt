@@ -1,11 +1,11 @@
 -- A snapshot's header as it stands in a file, of either version: its fields are read back.
 use Prim.Native.Nat.{ℕ, _+_, _*_, _-_, _≤_, _<_, _^_}
 use mathlib.Core.Path.{_≡_, refl, sym, ap, ap₂, subst, _∙_}
-use mathlib.Core.Bool.{false}
+use mathlib.Core.Bool.{Bool, true, false, cond}
 use mathlib.Core.List.{List, _++_, append-assoc}
 use native.Mathlib.Nat.{le-div-iff-mul-le}
 use native.Mathlib.Omega.{arith}
-use lib.Dec.{lit<}
+use lib.Dec.{eqb, lit<}
 use lib.ListN.{length, drop, length-append}
 use Rattle.fields.specs.Fields.{num, le, bytes}
 use Rattle.fields.proofs.Numbers.{length-bytes}
@@ -13,17 +13,36 @@ use Rattle.config.specs.Limits.{maxSnapshotBytes, maxRecords}
 use Rattle.config.specs.Settings.{validate, metricNumber, efOf, metricOf}
 use Rattle.config.specs.declared.Config.{Config}
 use Rattle.config.specs.declared.Metric.{Metric}
-use Rattle.refusal.specs.Refusal.{answer}
+use Rattle.refusal.specs.Refusal.{answer, refused}
+use Rattle.refusal.specs.declared.Refusal.the-variants.{WrongVersion}
 use Rattle.layout.specs.Layout.{recordLength, magic, metricLength, headerLength}
-use Rattle.meaning.specs.Snapshot.{headerMetric, bodyLength, overSequence, headerConfig, headerSequence, headerCount, Header, readHeader}
+use Rattle.meaning.specs.Snapshot.{versionOf, headerMetric, bodyLength, overSequence, headerConfig, headerSequence, headerCount, Header, readHeader}
 use Rattle.layout.specs.declared.Version.{Version}
 use Rattle.layout.specs.declared.Version.the-variants.{One, Two}
 use Rattle.config.proofs.Laws.{bounded-of-valid, read-of-number, number-below-three}
 use Rattle.theorems.proofs.Here.{part-here, after-here, num-here, after-number}
 use Rattle.theorems.specs.AnyFile.{versionNumber, metricBytes, headerOf, Tells, HeaderFits}
-use Rattle.theorems.proofs.HeaderFacts.{same-version, headerIn, HeaderFacts, header-read, header-reads}
-use Rattle.refusal.proofs.Results.{answer-injective}
+use Rattle.meaning.proofs.HeaderRead.{headerIn, HeaderFacts, header-read, header-reads}
+use borrow.Author.Tests.{eqb-true}
+use Rattle.refusal.proofs.Results.{answer-injective, refused-no-answer}
 
+-- ---- a version by its number
+pub version-read : (v : Version) → versionOf (versionNumber v) ≡ answer v
+version-read One = refl
+version-read Two = refl
+
+pub version-of-read : (n : ℕ) (v : Version) → versionOf n ≡ answer v → n ≡ versionNumber v
+version-of-read n v e = first (eqb n 1) refl e
+  where
+    second : (t : Bool) → eqb n 2 ≡ t → cond t (answer Two) (refused WrongVersion) ≡ answer v → n ≡ versionNumber v
+    second true q e = eqb-true n 2 q ∙ ap versionNumber (answer-injective Two v e)
+    second false q e = absurd (refused-no-answer WrongVersion v e)
+
+    first : (t : Bool) → eqb n 1 ≡ t → cond t (answer One) (cond (eqb n 2) (answer Two) (refused WrongVersion)) ≡ answer v → n ≡ versionNumber v
+    first true q e = eqb-true n 1 q ∙ ap versionNumber (answer-injective One v e)
+    first false q e = second (eqb n 2) refl e
+
+-- ---- the header
 pub length-any-header : (v : Version) (c : Config) (sequence count : ℕ) → length (headerOf v c sequence count) ≡ headerLength v
 unfolding headerOf
 length-any-header One c sequence count = simp (length-append, length-bytes)
@@ -122,7 +141,7 @@ pub header-seen : (v : Version) (s : List ℕ) (c : Config) (q n : ℕ) (rest : 
 header-seen v s c q n rest x h e =
     let r = header-read s x e in
     let w = r .version in
-    let same : w ≡ v = same-version w v (sym (r .facts .version-is) ∙ h .version-is) in
+    let same : w ≡ v = answer-injective w v (sym (r .facts .version-is) ∙ ap versionOf (h .version-is) ∙ version-read v) in
     let m : r .metric ≡ c .metric = answer-injective _ _ (sym (r .facts .metric-is) ∙ ap (λ (u : Version). headerMetric u s) same ∙ h .metric-is) in
     r .is ∙ ap₂ (λ (u : Version) (k : Metric). headerIn u s k) same m ∙ header-of-stands v s c q n rest h
 
@@ -141,7 +160,7 @@ header-back v s c q n rest h valid few ordered room short =
       long-enough = omega arith;
       short-enough = short;
       magic-is = h .magic-is;
-      version-is = h .version-is;
+      version-is = ap versionOf (h .version-is) ∙ version-read v;
       metric-is = h .metric-is;
       valid = ap validate (config-of-stands v s c q n rest h) ∙ valid;
       whole = omega arith;

@@ -1,6 +1,6 @@
 -- Demand 3 in its own words: take a snapshot we accept and a log, and cut the log before its first frame or after any frame that
 -- recovery reads without refusal.
-use Prim.Native.Nat.{ℕ, _+_, _-_, _≤_}
+use Prim.Native.Nat.{ℕ, _≤_}
 use native.Mathlib.Omega.{arith}
 use mathlib.Core.Path.{_≡_, sym, ap, _∙_, subst, refl}
 use mathlib.Core.List.{List, [], _++_, append-nil, _∷_}
@@ -9,7 +9,7 @@ use Rattle.fields.specs.Fields.{Bytes}
 use Rattle.config.specs.Limits.{maxSnapshotBytes, maxLogBytes}
 use Rattle.meaning.specs.Replay.{replay, begins, Frame, tail, reached}
 use Rattle.meaning.specs.Records.{rowKind}
-use Rattle.meaning.specs.Log.{framesOf}
+use Rattle.meaning.specs.Log.{framesOf, framesAt}
 use Rattle.meaning.specs.Recovery.{Recovered, recovered, boundsFor, ended, recover}
 use Rattle.theorems.specs.Cut.{Cut, CutTo, place, there, newSnapshot}
 use Rattle.theorems.proofs.Ran.{ran-reaches, ran}
@@ -18,7 +18,6 @@ use Rattle.theorems.proofs.LogCut.{log-joined, cut-after, cut-length, f
 use Rattle.theorems.proofs.Recovering.{accepted, frames-to-tail, frames-led, recover-read}
 use Rattle.theorems.specs.Compared.{compared, brief}
 use Rattle.theorems.proofs.Halves.{demand-three, demand-three-rest}
-use Rattle.meaning.proofs.FramesAt.{framesAt}
 use Rattle.theorems.proofs.CutFrames.{cut-anywhere}
 use Rattle.refusal.proofs.Results.{answer-injective}
 use Rattle.refusal.specs.Refusal.{answer}

@@ -16,7 +16,7 @@ use Rattle.meaning.specs.Replay.{begins, Kind, Operation, put, remove, Frame, t
 use Rattle.theorems.proofs.Ran.{Did, skips, plays, did, ran}
 use Rattle.theorems.specs.Cut.{Ran}
 use Rattle.meaning.specs.Every.{Every}
-use Rattle.theorems.proofs.Every.{every-append}
+use Rattle.meaning.proofs.EveryLaws.{every-append}
 use Rattle.meaning.proofs.Marking.{Deletes, length-mark, single-mark, single-put}
 use Rattle.refusal.proofs.Results.{answer-injective, refused-no-answer, passed, went}
 use Rattle.meaning.specs.LiveOnce.{LiveOnce}

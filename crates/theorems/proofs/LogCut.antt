@@ -11,13 +11,13 @@ use Rattle.layout.specs.Layout.{frameLength}
 use Rattle.refusal.specs.declared.Refusal.{Refusal}
 use Rattle.meaning.specs.Replay.{Frame, End, tail, bad, Frames}
 use Rattle.rows.specs.declared.Row.{Row}
-use Rattle.meaning.specs.Log.{ReadFrame, tooLittle, wrong, found, frameAt, join, goOn, framesOf}
+use Rattle.meaning.specs.Log.{ReadFrame, tooLittle, wrong, found, frameAt, join, goOn, framesOf, framesAt}
 use Rattle.theorems.proofs.Moved.{laterFrame, laterFrames, laterFound}
 use Rattle.theorems.proofs.OneFrame.{frame-front, frame-back, frame-shifted, frame-anew}
 use Rattle.theorems.proofs.LogLaws.{first-frame, no-frame, after-frame, back-to-back, ended-after, after-least, after-most, back-to-back-front, back-to-back-rest}
 use Rattle.theorems.specs.FrameLists.{afterFrame, byteAfter, BackToBack, lastSequence}
 use Rattle.meaning.proofs.FrameRead.{IsWrong, frame-too-little}
-use Rattle.meaning.proofs.FramesAt.{framesAt, frames-of, frames-at, frames-at-tail, frames-at-bad, frames-at-found, frames-induction, IsTail, endedAt}
+use Rattle.meaning.proofs.FramesAt.{frames-of, frames-at, frames-at-tail, frames-at-bad, frames-at-found, frames-induction, IsTail, endedAt}
 
 -- ---- log-joined
 -- frames before others

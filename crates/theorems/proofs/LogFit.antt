@@ -14,15 +14,15 @@ use Rattle.layout.specs.declared.Shape.{Shape}
 use Rattle.layout.specs.declared.Shape.the-variants.{Single, Batch}
 use Rattle.meaning.specs.Replay.{Operation, put, remove, Frame, Frames}
 use Rattle.rows.specs.declared.Row.{Row}
-use Rattle.meaning.specs.Log.{ReadOperation, ReadOperations, operationAt, operationsAt, shapeOf, operationsOf, found, frameAt, framesOf}
+use Rattle.meaning.specs.Log.{ReadOperation, ReadOperations, operationAt, operationsAt, shapeOf, operationsOf, found, frameAt, framesOf, framesAt}
 use Rattle.meaning.specs.Every.{Every}
 use Rattle.theorems.specs.FrameRows.{Puts}
 use Rattle.theorems.proofs.Kept.{EveryOperation}
 use Rattle.theorems.specs.Storable.{Sourced}
-use Rattle.theorems.proofs.ItemRead.{ItemHere}
-use Rattle.theorems.proofs.Operations.{OperationHere, putHere, removeHere, operation-read, operations-none, operations-read, batch-read, single-read}
+use Rattle.meaning.proofs.ItemRead.{ItemHere}
+use Rattle.meaning.proofs.OperationRead.{OperationHere, putHere, removeHere, operation-read, operations-none, operations-read, batch-read, single-read}
 use Rattle.meaning.proofs.FrameRead.{operationsRead, payload-read, frame-read}
-use Rattle.meaning.proofs.FramesAt.{framesAt, frames-of, frames-induction}
+use Rattle.meaning.proofs.FramesAt.{frames-of, frames-induction}
 use Rattle.theorems.proofs.RowSourced.{row-sourced}
 
 -- ---- every row that is put

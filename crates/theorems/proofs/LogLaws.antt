@@ -9,10 +9,10 @@ use Rattle.config.specs.declared.Config.{Config}
 use Rattle.layout.specs.Layout.{frameLength}
 use Rattle.meaning.specs.Replay.{Frame, End, tail, Frames}
 use Rattle.rows.specs.declared.Row.{Row}
-use Rattle.meaning.specs.Log.{ReadFrame, tooLittle, wrong, found, frameAt, goOn, framesOf}
+use Rattle.meaning.specs.Log.{ReadFrame, tooLittle, wrong, found, frameAt, goOn, framesOf, framesAt}
 use Rattle.theorems.specs.FrameLists.{Consecutive, Numbered, afterFrame, byteAfter, BackToBack}
 use Rattle.meaning.proofs.FrameRead.{frame-bounds}
-use Rattle.meaning.proofs.FramesAt.{framesAt, frames-of, frames-at, frames-induction, endedAt, IsTail}
+use Rattle.meaning.proofs.FramesAt.{frames-of, frames-at, frames-induction, endedAt, IsTail}
 
 -- ---- what the frames read say of what stands at the byte
 pub record FirstFrame (c : Config) (log : List ℕ) (previous at : ℕ) (f : Frame Row) (fs : List (Frame Row)) (end : End) : Type 0 where

@@ -1,14 +1,12 @@
 -- What a request's words mean: the operations by value, in order; and that the encoder writes exactly these.
-use Prim.Native.Nat.{ℕ, zero, suc, _+_, _*_, _≤_, _<_, _^_}
+use Prim.Native.Nat.{ℕ, zero, suc, _*_, _≤_, _<_, _^_}
 use mathlib.Core.Path.{_≡_, refl, sym, ap, ap₂, _∙_}
-use mathlib.Core.Bool.{Bool, true, false, not, cond, false≢true}
+use mathlib.Core.Bool.{Bool, true, false, cond, false≢true}
 use mathlib.Core.List.{List, [], _∷_, _++_, map}
 use native.Mathlib.Nat.{mul-suc}
 use native.Mathlib.Omega.{arith}
-use lib.Dec.{ltb, eqb}
 use lib.ListN.{length, take, drop, getD, length-drop}
 use lib.Seq.{length-take-le}
-use Rattle.utf8.specs.Utf8.{isUtf8}
 use Rattle.fields.specs.Fields.{part, bytes, Bytes}
 use Rattle.fields.proofs.Parts.{length-part}
 use Rattle.fields.proofs.Numbers.{Bytes-part}
@@ -17,18 +15,16 @@ use Rattle.coordinates.proofs.Patterns.{length-coordinateBytes, Bytes-coordinat
 use Rattle.config.specs.Limits.{maxMetadata}
 use Rattle.config.specs.declared.Config.{Config}
 use Rattle.refusal.specs.Refusal.{answer, _>>=_}
-use Rattle.refusal.specs.declared.Refusal.the-variants.{CaptionTooLong, RequestMalformed, NotUtf8}
-use Rattle.meaning.specs.Replay.{Operation, put, remove}
+use Rattle.meaning.specs.Replay.{Operation, put}
 use Rattle.meaning.specs.Records.{Record}
-use Rattle.meaning.specs.Item.{coordinates}
 use Rattle.meaning.specs.Encoder.{Asked, askedFrom, isPut, askedLength, askedStart, putCount, Tagged, encodePut, encodeDelete, encodeAll}
 use Rattle.meaning.specs.Every.{Every}
+use Rattle.meaning.proofs.OperationEncoded.{PutEncoded, put-encoded, delete-encoded}
 use Rattle.theorems.specs.FrameRows.{Puts, encodedOf}
 use Rattle.theorems.specs.Storable.{Fit}
 use Rattle.theorems.proofs.FrameBack.{InBytes}
 use Rattle.theorems.proofs.OperationBack.{Loggable}
-use borrow.Author.Tests.{ltb-false, eqb-true, not-false}
-use Rattle.refusal.proofs.Results.{answer-injective, passed, went}
+use Rattle.refusal.proofs.Results.{answer-injective, passed}
 use Rattle.theorems.specs.Requested.{recordMeant, operationMeant, meant}
 
 pub length-meant : (c : Config) (coords captions : List ℕ) (os : List Asked) → length (meant c coords captions os) ≡ length os
@@ -51,34 +47,12 @@ asked-fit zero k words h = tt
 asked-fit (suc n) k words h = (word-fits words (2 * k) h, asked-fit n (suc k) words h)
 
 -- ---- one operation encoded
-pub record PutEncoded (c : Config) (coords captions : List ℕ) (o : Asked) (e : Tagged) : Type 0 where
-  pub short : askedLength o ≤ maxMetadata
-  pub inside : askedStart o + askedLength o ≤ length captions
-  pub vector-good : coordinates c (coordinateBytes coords) ≡ answer tt
-  pub caption-good : isUtf8 (part captions (askedStart o) (askedLength o)) ≡ true
-  pub encoded-is : e ≡ encodedOf (put (recordMeant coords captions o))
-
-pub put-encoded : (c : Config) (coords captions : List ℕ) (o : Asked) (e : Tagged) → encodePut c coords captions o ≡ answer e → PutEncoded c coords captions o e
-unfolding encodePut
-put-encoded c coords captions o e h =
-    let n = askedLength o in
-    let at = askedStart o in
-    let text = part captions at n in
-    let s1 = went CaptionTooLong (ltb maxMetadata n) _ e h in
-    let s2 = went RequestMalformed (ltb (length captions) (at + n)) _ e (s1 .then) in
-    let s3 = passed (coordinates c (coordinateBytes coords)) _ e (s2 .then) in
-    let s4 = went NotUtf8 (not (isUtf8 text)) _ e (s3 .then) in
-    let inside = ltb-false (length captions) (at + n) (s2 .test-false) in
-    let l : length text ≡ n = length-part captions at n inside in
-    record {
-      short = ltb-false maxMetadata n (s1 .test-false);
-      inside = inside;
-      vector-good = s3 .first;
-      caption-good = not-false (isUtf8 text) (s4 .test-false);
-      encoded-is =
-          sym (answer-injective _ e (s4 .then))
-          ∙ ap (λ (x : ℕ). record { tag = 1; fields = bytes 8 (o .id) ++ (coordinateBytes coords ++ (bytes 4 x ++ text)) }) (sym l);
-    }
+-- its bytes are those of the put that was meant
+pub put-meant : (c : Config) (coords captions : List ℕ) (o : Asked) (e : Tagged) → PutEncoded c coords captions o e → e ≡ encodedOf (put (recordMeant coords captions o))
+put-meant c coords captions o e p =
+    let text = part captions (askedStart o) (askedLength o) in
+    let l : length text ≡ askedLength o = length-part captions (askedStart o) (askedLength o) (p .inside) in
+    p .is ∙ ap (λ (x : ℕ). record { tag = 1; fields = bytes 8 (o .id) ++ (coordinateBytes coords ++ (bytes 4 x ++ text)) }) (sym l)
 
 -- what was encoded is accepted from a log
 pub put-loggable : (c : Config) (coords captions : List ℕ) (o : Asked) (e : Tagged)
@@ -95,19 +69,6 @@ put-loggable c coords captions o e p d-is fits =
       },
       refl,
     )
-
-pub record DeleteEncoded (o : Asked) (e : Tagged) : Type 0 where
-  pub word-is : o .word ≡ 0
-  pub encoded-is : e ≡ encodedOf (remove (o .id))
-
-pub delete-encoded : (o : Asked) (e : Tagged) → encodeDelete o ≡ answer e → DeleteEncoded o e
-unfolding encodeDelete
-delete-encoded o e h =
-    let s = went RequestMalformed (not (eqb (o .word) 0)) _ e h in
-    record {
-      word-is = eqb-true (o .word) 0 (not-false (eqb (o .word) 0) (s .test-false));
-      encoded-is = sym (answer-injective _ e (s .then));
-    }
 
 -- ---- all operations encoded
 pub record AllEncoded (c : Config) (coords captions : List ℕ) (os : List Asked) (es : List Tagged) : Type 0 where
@@ -142,7 +103,7 @@ all-encoded c coords captions (o ∷ os) es n k h =
         let p = put-encoded c (take d coords) captions o (s1 .value) (s1 .first) in
         let more = again (drop d coords) (s2 .value) left (s2 .first) in
         let all = sym (answer-injective (s1 .value ∷ s2 .value) es (s2 .then)) in (
-          all ∙ ap₂ _∷_ (p .encoded-is) (more .encoded-are),
+          all ∙ ap₂ _∷_ (put-meant c (take d coords) captions o (s1 .value) p) (more .encoded-are),
           (put-loggable c (take d coords) captions o (s1 .value) p (length-take-le d coords enough) (k .0), more .loggable),
         )
     go false n h again =
@@ -150,7 +111,7 @@ all-encoded c coords captions (o ∷ os) es n k h =
         let s2 = passed (encodeAll c coords captions os) _ es (s1 .then) in
         let more = again coords (s2 .value) n (s2 .first) in
         let all = sym (answer-injective (s1 .value ∷ s2 .value) es (s2 .then)) in
-        (all ∙ ap₂ _∷_ (delete-encoded o (s1 .value) (s1 .first) .encoded-is) (more .encoded-are), (k .0, more .loggable))
+        (all ∙ ap₂ _∷_ (delete-encoded o (s1 .value) (s1 .first) .is) (more .encoded-are), (k .0, more .loggable))
 
 -- ---- its records are fit for a snapshot
 pub meant-fit : (c : Config) (coords captions : List ℕ) (os : List Asked)

@@ -6,24 +6,21 @@ use mathlib.Core.List.{List, [], _∷_, _++_, append-assoc, map}
 use native.Mathlib.Omega.{arith}
 use lib.ListN.{length, take, drop, length-append}
 use lib.Seq.{drop-drop}
-use Rattle.utf8.specs.Utf8.{isUtf8}
-use Rattle.fields.specs.Fields.{part, num, le, bytes}
+use Rattle.fields.specs.Fields.{num, le, bytes}
 use Rattle.fields.proofs.Numbers.{length-bytes}
 use Rattle.config.specs.declared.Config.{Config}
 use Rattle.refusal.specs.Refusal.{answer}
-use Rattle.layout.specs.Layout.{captionOffset}
 use Rattle.meaning.specs.Replay.{Operation, put, remove}
 use Rattle.meaning.specs.Records.{Record, seen}
-use Rattle.meaning.specs.Item.{coordinates}
 use Rattle.meaning.specs.Log.{operationAt, operationsAt}
 use Rattle.meaning.specs.Encoder.{taggedBytes}
 use Rattle.meaning.specs.Every.{Every}
 use Rattle.theorems.specs.FrameRows.{carryOperation, Puts, encodedOf, tagOf, fieldsOf, loggedAt, loggedFrom, FromLog}
-use Rattle.theorems.proofs.Here.{part-here, after-here, num-here, after-number}
-use Rattle.theorems.proofs.ItemRead.{ItemHere}
-use Rattle.theorems.proofs.Operations.{putHere, removeHere, operation-reads, operations-reads-none, operations-reads}
+use Rattle.theorems.proofs.Here.{after-here, num-here, after-number}
+use Rattle.meaning.proofs.OperationRead.{putHere, removeHere}
+use Rattle.theorems.proofs.Operations.{operation-reads, operations-reads-none, operations-reads}
 use Rattle.theorems.specs.AnyFile.{Shaped}
-use Rattle.theorems.proofs.RecordBack.{Readable}
+use Rattle.theorems.proofs.ItemBack.{Readable, ItemStands, item-stands, item-back}
 
 -- ---- one byte
 pub byte-here : (s : List ℕ) (at b : ℕ) (rest : List ℕ) → drop at s ≡ b ∷ rest → num s at 1 ≡ b
@@ -51,27 +48,17 @@ fields-low (put r) =
     omega (arith, length-append (bytes 8 (r .id)) rest, length-bytes 8 (r .id))
 fields-low (remove id) = omega (arith, length-bytes 8 id)
 
--- the fields of a put whose ID stands at `at`, before `rest`
+-- the fields of a put whose ID stands at `at`
 pub record PutStands (d : ℕ) (s : List ℕ) (at : ℕ) (r : Record) : Type 0 where
   pub id-is : num s at 8 ≡ r .id
-  pub vector-is : part s (at + 8) (4 * d) ≡ r .vector
-  pub length-is : num s (at + 8 + 4 * d) 4 ≡ length (r .caption)
-  pub caption-is : part s (at + 8 + captionOffset d) (length (r .caption)) ≡ r .caption
+  pub item : ItemStands d s (at + 8) r
 
 pub put-stands : (d : ℕ) (s : List ℕ) (at : ℕ) (r : Record) (rest : List ℕ) → drop at s ≡ fieldsOf (put r) ++ rest → Shaped d r → PutStands d s at r
 put-stands d s at r rest h k =
     let n = length (r .caption) in
     let h0 : drop at s ≡ bytes 8 (r .id) ++ (r .vector ++ (bytes 4 n ++ (r .caption ++ rest))) = h ∙ simp append-assoc in
     let h1 = after-number s at 8 (r .id) _ h0 in
-    let h2 = after-here s (at + 8) (4 * d) (r .vector) _ h1 (k .vector-length) in
-    let h3 = after-number s (at + 8 + 4 * d) 4 n _ h2 in
-    let place : at + 8 + captionOffset d ≡ at + 8 + 4 * d + 4 = omega arith in
-    record {
-      id-is = num-here s at 8 (r .id) _ h0 (k .id-fits);
-      vector-is = part-here s (at + 8) (4 * d) (r .vector) _ h1 (k .vector-length);
-      length-is = num-here s (at + 8 + 4 * d) 4 n _ h2 (k .caption-fits);
-      caption-is = ap (λ (x : ℕ). part s x n) place ∙ part-here s (at + 8 + 4 * d + 4) n (r .caption) rest h3 refl;
-    }
+    record { id-is = num-here s at 8 (r .id) _ h0 (k .id-fits); item = item-stands d s (at + 8) r rest h1 k }
 
 -- an operation that a reader accepts is read where it stands
 pub operation-back : (c : Config) (log : List ℕ) (end at : ℕ) (o : Operation Record) (rest : List ℕ)
@@ -85,14 +72,7 @@ operation-back c log end at (put r) rest h room k =
     let size-is = length-put-fields d r (good .shaped .vector-length) in
     let next-is : at + 12 + 4 * d + n ≡ at + length (fieldsOf (put r)) = omega arith in
     let id-is = p .id-is in
-    let i : ItemHere c log end (at + 8) n =
-    record {
-      caption-is = sym (p .length-is);
-      inside = omega arith;
-      short = good .caption-length;
-      vector-good = ap (coordinates c) (p .vector-is) ∙ good .vector-good;
-      caption-good = ap isUtf8 (p .caption-is) ∙ good .caption-good;
-    } in
+    let i = item-back c log end (at + 8) r (p .item) good (omega arith) in
     let room8 : at + 8 ≤ end = omega arith in
     operation-reads c log end 1 at (record { operation = loggedAt at (put r); next = at + length (fieldsOf (put r)) }) (putHere n refl room8 i
     (λ j. record { operation = put (record { id = record { 0 = sym id-is j }; deleted = false; «from_log» = true; «caption_length» = n; at = at + 8 }); next = sym next-is j }))
@@ -110,8 +90,8 @@ pub operation-seen : (c : Config) (snapshot log : List ℕ) (at : ℕ) (o : Oper
 operation-seen c snapshot log at (put r) rest h k =
     let p = put-stands (c .dimensions) log at r rest h (k .0 .shaped) in
     let live = k .1 in
-    let vector-is = p .vector-is in
-    let caption-is = p .caption-is in
+    let vector-is = p .item .vector-is in
+    let caption-is = p .item .caption-is in
     λ j. put (record { id = r .id; deleted = sym live j; vector = vector-is j; caption = caption-is j })
 operation-seen c snapshot log at (remove id) rest h k = refl
 

@@ -17,19 +17,21 @@ use Rattle.refusal.specs.Refusal.{answer}
 use Rattle.meaning.specs.Records.{Record, seen}
 use Rattle.rows.specs.declared.Row.{Row}
 use Rattle.layout.specs.Layout.{captionOffset, recordLength, magic, metricLength, headerLength}
-use Rattle.meaning.specs.Snapshot.{headerMetric, bodyLength, headerConfig, headerSequence, headerCount, ReadRow, recordAt, ReadRows, recordsAt, Snapshot, readSnapshot}
+use Rattle.meaning.specs.Snapshot.{versionOf, headerMetric, bodyLength, headerConfig, headerSequence, headerCount, ReadRow, recordAt, ReadRows, recordsAt, Snapshot, readSnapshot}
 use Rattle.layout.specs.declared.Version.{Version}
 use Rattle.layout.specs.declared.Version.the-variants.{One, Two}
 use Rattle.meaning.specs.File.{flagOf, recordBytes, recordsBytes}
 use Rattle.config.proofs.Laws.{number-of-read}
 use Rattle.meaning.specs.Every.{Every}
-use Rattle.theorems.proofs.RecordBack.{all-shaped, Readable, records-seen}
+use Rattle.theorems.proofs.RecordBack.{all-shaped, records-seen}
+use Rattle.theorems.proofs.ItemBack.{Readable}
 use Rattle.theorems.specs.FileRows.{asRead}
 use Rattle.theorems.specs.AcceptedFile.{LaidOut}
 use Rattle.theorems.specs.AnyFile.{versionNumber, metricBytes, headerOf, Tells, HeaderFits, bodyWith, fileWith}
-use Rattle.theorems.proofs.HeaderFacts.{HeaderFacts, headerIn}
+use Rattle.meaning.proofs.HeaderRead.{HeaderFacts, headerIn}
+use Rattle.theorems.proofs.HeaderBack.{version-of-read}
 use Rattle.theorems.proofs.FileBack.{records-here, snapshotOf, file-read}
-use Rattle.theorems.proofs.SnapshotFacts.{RecordFacts, RecordRead, record-facts, SnapshotFacts, snapshotIn, snapshot-known}
+use Rattle.meaning.proofs.SnapshotRead.{RecordFacts, RecordRead, record-facts, PartsFacts, snapshotIn, snapshot-facts}
 use Rattle.refusal.proofs.Results.{answer-injective, passed}
 
 -- two parts of which one begins where the other ends
@@ -171,21 +173,21 @@ header-raw s v metric b f =
     let j4 = ap₂ _++_ (bytes-num s 20 4 b (omega arith)) j5 ∙ parts-joined s 20 4 24 (x + 24) (4 + (x + 24)) refl refl in
     let j3 = ap₂ _++_ (bytes-num s 16 4 b (omega arith)) j4 ∙ parts-joined s 16 4 20 (4 + (x + 24)) (8 + (x + 24)) refl (omega arith) in
     let j2 = ap₂ _++_ (bytes-num s 12 4 b (omega arith)) j3 ∙ parts-joined s 12 4 16 (8 + (x + 24)) (12 + (x + 24)) refl (omega arith) in
-    let e1 : bytes 4 (versionNumber v) ≡ part s 8 4 = ap (bytes 4) (sym (f .version-is)) ∙ bytes-num s 8 4 b (omega arith) in
+    let e1 : bytes 4 (versionNumber v) ≡ part s 8 4 = ap (bytes 4) (sym (version-of-read (num s 8 4) v (f .version-is))) ∙ bytes-num s 8 4 b (omega arith) in
     let j1 = ap₂ _++_ e1 j2 ∙ parts-joined s 8 4 12 (12 + (x + 24)) (16 + (x + 24)) refl (omega arith) in
     ap₂ _++_ (magic-raw s b long (f .magic-is)) j1 ∙ parts-joined s 0 8 8 (16 + (x + 24)) (48 + x) refl (omega arith)
 
 -- ---- the file
 pub record RawFile (s : List ℕ) (x : Snapshot) : Type 0 where
   pub version : Version
-  pub version-is : num s 8 4 ≡ versionNumber version
+  pub version-is : versionOf (num s 8 4) ≡ answer version
   pub records : List Record
   pub is : s ≡ fileWith version (x .config) (x .sequence) records
   pub fits : HeaderFits version (x .config) (x .sequence) (length records)
   pub readable : Every (Readable (x .config)) records
 
 raw-of-facts : (lent : ℕ) (s : List ℕ) (v : Version) (metric : Metric) (found : ReadRows) → Bytes s → HeaderFacts s v metric
-    → SnapshotFacts lent s (headerIn v s metric) found → RawFile s (snapshotIn s (headerIn v s metric) found)
+    → PartsFacts lent s (headerIn v s metric) found → RawFile s (snapshotIn s (headerIn v s metric) found)
 unfolding fileWith
 raw-of-facts lent s v metric found b h f =
     let c = headerConfig v s metric in
@@ -224,7 +226,7 @@ raw-of-facts lent s v metric found b h f =
 
 pub raw-file : (lent : ℕ) (s : List ℕ) (x : Snapshot) → Bytes s → readSnapshot lent s ≡ answer x → RawFile s x
 raw-file lent s x b e =
-    let k = snapshot-known lent s x e in
+    let k = snapshot-facts lent s x e .parts in
     subst (RawFile s) (k .is) (raw-of-facts lent s (k .version) (k .metric) (k .found) b (k .header) (k .facts))
 
 -- the rows show its records as a reader makes them: a deleted one without caption

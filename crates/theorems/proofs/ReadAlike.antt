@@ -9,7 +9,7 @@ use Rattle.config.specs.declared.Config.{Config}
 use Rattle.refusal.specs.Refusal.{answer}
 use Rattle.meaning.specs.Records.{Record, seen}
 use Rattle.rows.specs.declared.Row.{Row}
-use Rattle.meaning.specs.Snapshot.{Snapshot, readSnapshot}
+use Rattle.meaning.specs.Snapshot.{versionOf, Snapshot, readSnapshot}
 use Rattle.layout.specs.declared.Version.{Version}
 use Rattle.layout.specs.declared.Version.the-variants.{Two}
 use Rattle.layout.specs.Layout.{headerLength}
@@ -22,7 +22,7 @@ use Rattle.theorems.proofs.FileBack.{file-with-two, records-here, snaps
 use Rattle.theorems.proofs.RawFile.{RawFile, raw-seen, raw-file}
 use Rattle.theorems.specs.DeletedCaptions.{DifferInDeleted, placeless}
 use Rattle.fields.specs.Fields.{num, Bytes}
-use Rattle.theorems.proofs.HeaderFacts.{same-version}
+use Rattle.refusal.proofs.Results.{answer-injective}
 
 -- the row that a record has, without a place
 abbrev pub placelessRow : Record → Row
@@ -111,4 +111,4 @@ rewritten-raw lent s x log e k two-is =
 
 pub rewritten : (lent : ℕ) (s : List ℕ) (x : Snapshot) (log : List ℕ) → Bytes s → readSnapshot lent s ≡ answer x → num s 8 4 ≡ 2
     → DifferInDeleted s (fileOf (x .config) (x .sequence) (map (seen (x .config .dimensions) s log) (x .rows)))
-rewritten lent s x log b e two = let k = raw-file lent s x b e in rewritten-raw lent s x log e k (same-version (k .version) Two (sym (k .version-is) ∙ two))
+rewritten lent s x log b e two = let k = raw-file lent s x b e in rewritten-raw lent s x log e k (answer-injective (k .version) Two (sym (k .version-is) ∙ ap versionOf two))

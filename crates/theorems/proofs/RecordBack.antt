@@ -6,9 +6,7 @@ use mathlib.Core.List.{List, [], _∷_, _++_, append-assoc, map}
 use native.Mathlib.Omega.{arith}
 use lib.ListN.{length, drop, length-append}
 use lib.Dec.{ltb, eqb, lit<}
-use Rattle.utf8.specs.Utf8.{isUtf8}
 use Rattle.fields.specs.Fields.{part, num, bytes}
-use Rattle.config.specs.Limits.{maxMetadata}
 use Rattle.config.specs.declared.Config.{Config}
 use Rattle.refusal.specs.Refusal.{answer}
 use Rattle.refusal.specs.declared.Refusal.the-variants.{PastTheEnd, WrongFlag, VectorPastTheEnd}
@@ -17,14 +15,17 @@ use Rattle.meaning.specs.Records.{Record, seen, recordKind}
 use Rattle.rows.specs.declared.Row.{Row}
 use Rattle.layout.specs.Layout.{captionOffset, recordLength}
 use Rattle.meaning.specs.File.{flagOf, recordBytes, recordsBytes}
-use Rattle.meaning.specs.Item.{coordinates, itemAt}
+use Rattle.meaning.specs.Item.{itemAt}
 use Rattle.meaning.specs.Snapshot.{ReadRow, snapshotRow, recordAt, ReadRows, recordsAt}
 use Rattle.theorems.specs.Storable.{Fit, Sourced}
-use Rattle.theorems.proofs.ItemRead.{ItemHere, item-read, item-reads}
-use Rattle.theorems.proofs.Here.{part-here, after-here, num-here, after-number, room-here}
+use Rattle.meaning.proofs.EveryLaws.{every-map}
+use Rattle.meaning.proofs.ItemRead.{item-reads}
+use Rattle.meaning.proofs.SnapshotRead.{record-facts}
+use Rattle.theorems.proofs.Here.{after-here, num-here, after-number, room-here}
+use Rattle.theorems.proofs.ItemBack.{Readable, ItemStands, item-stands, item-back}
 use Rattle.meaning.specs.Every.{Every}
 use borrow.Author.Tests.{le-ltb}
-use Rattle.refusal.proofs.Results.{answer-injective, passed, went, pass, go-on}
+use Rattle.refusal.proofs.Results.{answer-injective, passed, pass, go-on}
 use Rattle.theorems.specs.FileRows.{captionRead, asRead, recordRow, fileRows}
 use Rattle.theorems.specs.AnyFile.{Shaped}
 use Rattle.meaning.proofs.Lengths.{length-record}
@@ -32,13 +33,6 @@ use Rattle.meaning.proofs.Lengths.{length-record}
 -- the vector has d coordinates
 abbrev pub Wide : ℕ → Record → Type 0
 Wide d r = length (r .vector) ≡ 4 * d
-
--- a reader accepts the record, whatever a deleted one has for a caption
-pub record Readable (c : Config) (r : Record) : Type 0 where
-  pub shaped : Shaped (c .dimensions) r
-  pub vector-good : coordinates c (r .vector) ≡ answer tt
-  pub caption-length : length (r .caption) ≤ maxMetadata
-  pub caption-good : isUtf8 (r .caption) ≡ true
 
 pub readable-of-fit : (c : Config) (r : Record) → Fit c r → Readable c r
 readable-of-fit c r f =
@@ -51,16 +45,13 @@ readable-of-fit c r f =
     }
 
 pub all-shaped : (c : Config) (rs : List Record) → Every (Readable c) rs → Every (Shaped (c .dimensions)) rs
-all-shaped c [] k = tt
-all-shaped c (r ∷ rs) k = (k .0 .shaped, all-shaped c rs (k .1))
+all-shaped c = every-map (Readable c) (Shaped (c .dimensions)) (λ r k. k .shaped)
 
 pub all-wide : (d : ℕ) (rs : List Record) → Every (Shaped d) rs → Every (Wide d) rs
-all-wide d [] k = tt
-all-wide d (r ∷ rs) k = (k .0 .vector-length, all-wide d rs (k .1))
+all-wide d = every-map (Shaped d) (Wide d) (λ r k. k .vector-length)
 
 pub all-readable : (c : Config) (rs : List Record) → Every (Fit c) rs → Every (Readable c) rs
-all-readable c [] k = tt
-all-readable c (r ∷ rs) k = (readable-of-fit c r (k .0), all-readable c rs (k .1))
+all-readable c = every-map (Fit c) (Readable c) (readable-of-fit c)
 
 pub as-read : (c : Config) (r : Record) → Fit c r → asRead r ≡ r
 as-read c r f = ap (λ (l : List ℕ). record { id = r .id; deleted = r .deleted; vector = r .vector; caption = l }) (go (r .deleted) refl)
@@ -73,20 +64,17 @@ as-read c r f = ap (λ (l : List ℕ). record { id = r .id; deleted = r .deleted
 abbrev pub InFile : Row → Type 0
 InFile r = r .«from_log» ≡ false
 
--- the fields of a record that record-stands at `at`, before `rest`
-pub record RecordStands (d : ℕ) (s : List ℕ) (at : ℕ) (r : Record) (rest : List ℕ) : Type 0 where
+-- the fields of a record that stands at `at`
+pub record RecordStands (d : ℕ) (s : List ℕ) (at : ℕ) (r : Record) : Type 0 where
   pub id-is : num s at 8 ≡ r .id
   pub flag-is : num s (at + 8) 1 ≡ flagOf (r .deleted)
-  pub vector-is : part s (at + 9) (4 * d) ≡ r .vector
-  pub length-is : num s (at + 9 + 4 * d) 4 ≡ length (r .caption)
-  pub caption-is : part s (at + 9 + captionOffset d) (length (r .caption)) ≡ r .caption
-  pub behind : drop (at + recordLength d (length (r .caption))) s ≡ rest
+  pub item : ItemStands d s (at + 9) r
 
 flag-fits : (t : Bool) → flagOf t < 256 ^ 1
 flag-fits true = lit< tt
 flag-fits false = lit< tt
 
-pub record-stands : (d : ℕ) (s : List ℕ) (at : ℕ) (r : Record) (rest : List ℕ) → drop at s ≡ recordBytes r ++ rest → Shaped d r → RecordStands d s at r rest
+pub record-stands : (d : ℕ) (s : List ℕ) (at : ℕ) (r : Record) (rest : List ℕ) → drop at s ≡ recordBytes r ++ rest → Shaped d r → RecordStands d s at r
 record-stands d s at r rest h k =
     let n = length (r .caption) in
     let h0 : drop at s ≡ bytes 8 (r .id) ++ (bytes 1 (flagOf (r .deleted)) ++ (r .vector ++ (bytes 4 n ++ (r .caption ++ rest)))) = h ∙ simp append-assoc in
@@ -94,18 +82,10 @@ record-stands d s at r rest h k =
     let h2' = after-number s (at + 8) 1 (flagOf (r .deleted)) _ h1 in
     let e2 : at + 8 + 1 ≡ at + 9 = omega arith in
     let h2 : drop (at + 9) s ≡ r .vector ++ (bytes 4 n ++ (r .caption ++ rest)) = subst (λ (x : ℕ). drop x s ≡ r .vector ++ (bytes 4 n ++ (r .caption ++ rest))) e2 h2' in
-    let h3 = after-here s (at + 9) (4 * d) (r .vector) _ h2 (k .vector-length) in
-    let h4 = after-number s (at + 9 + 4 * d) 4 n _ h3 in
-    let h5 = after-here s (at + 9 + 4 * d + 4) n (r .caption) rest h4 refl in
-    let place : at + 9 + captionOffset d ≡ at + 9 + 4 * d + 4 = omega arith in
-    let e5 : at + 9 + 4 * d + 4 + n ≡ at + recordLength d n = omega arith in
     record {
       id-is = num-here s at 8 (r .id) _ h0 (k .id-fits);
       flag-is = num-here s (at + 8) 1 (flagOf (r .deleted)) _ h1 (flag-fits (r .deleted));
-      vector-is = part-here s (at + 9) (4 * d) (r .vector) _ h2 (k .vector-length);
-      length-is = num-here s (at + 9 + 4 * d) 4 n _ h3 (k .caption-fits);
-      caption-is = ap (λ (x : ℕ). part s x n) place ∙ part-here s (at + 9 + 4 * d + 4) n (r .caption) rest h4 refl;
-      behind = subst (λ (x : ℕ). drop x s ≡ rest) e5 h5;
+      item = item-stands d s (at + 9) r rest h2 k;
     }
 
 -- ---- one record
@@ -120,25 +100,21 @@ caption-count false l = refl
 abbrev pub readAt : ℕ → Record → ReadRow
 readAt at r = record { row = recordRow at r; next = at + length (recordBytes r) }
 
-row-of-stands : (c : Config) (s : List ℕ) (at : ℕ) (r : Record) (rest : List ℕ) → RecordStands (c .dimensions) s at r rest → Shaped (c .dimensions) r
+row-of-stands : (c : Config) (s : List ℕ) (at : ℕ) (r : Record) → RecordStands (c .dimensions) s at r → Shaped (c .dimensions) r
     → snapshotRow c s at (length (r .caption)) ≡ readAt at r
-row-of-stands c s at r rest h k =
+row-of-stands c s at r h k =
     let e : eqb (num s (at + 8) 1) 1 ≡ r .deleted = ap (λ (x : ℕ). eqb x 1) (h .flag-is) ∙ flag-read (r .deleted) in
     rw (h .id-is, e, length-record (c .dimensions) r (k .vector-length), caption-count (r .deleted) (r .caption)) refl
 
--- a record that is accepted where it record-stands is read so
+-- a record that is accepted where it stands is read so
 pub record-read : (c : Config) (s : List ℕ) (end at : ℕ) (r : Record) (rest : List ℕ) (x : ReadRow)
     → drop at s ≡ recordBytes r ++ rest → Shaped (c .dimensions) r → recordAt c s end at ≡ answer x → x ≡ readAt at r
-unfolding recordAt
 record-read c s end at r rest x h k e =
     let p = record-stands (c .dimensions) s at r rest h k in
-    let s1 = went PastTheEnd (ltb end (at + 9)) _ x e in
-    let s2 = went WrongFlag (ltb 1 (num s (at + 8) 1)) _ x (s1 .then) in
-    let s3 = passed (itemAt VectorPastTheEnd c s end (at + 9)) _ x (s2 .then) in
-    let i = item-read VectorPastTheEnd c s end (at + 9) (s3 .value) (s3 .first) in
-    sym (answer-injective _ x (s3 .then)) ∙ ap (λ (n : ℕ). snapshotRow c s at n) (i .caption-is ∙ p .length-is) ∙ row-of-stands c s at r rest p k
+    let y = record-facts c s end at x e in
+    y .is ∙ ap (λ (n : ℕ). snapshotRow c s at n) (y .facts .item .caption-is ∙ p .item .length-is) ∙ row-of-stands c s at r p k
 
--- a record that a reader accepts is accepted where it record-stands
+-- a record that a reader accepts is accepted where it stands
 pub record-back : (c : Config) (s : List ℕ) (end at : ℕ) (r : Record) (rest : List ℕ)
     → drop at s ≡ recordBytes r ++ rest → at + length (recordBytes r) ≤ end → Readable c r → recordAt c s end at ≡ answer (readAt at r)
 unfolding recordAt
@@ -149,18 +125,11 @@ record-back c s end at r rest h room k =
     let size-is = length-record d r (k .shaped .vector-length) in
     let flag-low : flagOf (r .deleted) ≤ 1 = flag-bit (r .deleted) in
     let flag-is = p .flag-is in
-    let i : ItemHere c s end (at + 9) n =
-    record {
-      caption-is = sym (p .length-is);
-      inside = omega arith;
-      short = k .caption-length;
-      vector-good = ap (coordinates c) (p .vector-is) ∙ k .vector-good;
-      caption-good = ap isUtf8 (p .caption-is) ∙ k .caption-good;
-    } in
+    let i = item-back c s end (at + 9) r (p .item) k (omega arith) in
     pass PastTheEnd (ltb end (at + 9)) _ (le-ltb end (at + 9) (omega arith))
     ∙ pass WrongFlag (ltb 1 (num s (at + 8) 1)) _ (le-ltb 1 (num s (at + 8) 1) (omega arith))
     ∙ go-on (itemAt VectorPastTheEnd c s end (at + 9)) _ n (item-reads VectorPastTheEnd c s end (at + 9) n i)
-    ∙ ap answer (row-of-stands c s at r rest p (k .shaped))
+    ∙ ap answer (row-of-stands c s at r p (k .shaped))
   where
     flag-bit : (t : Bool) → flagOf t ≤ 1
     flag-bit true = omega arith
@@ -170,8 +139,8 @@ pub seen-back : (d : ℕ) (s log : List ℕ) (at : ℕ) (r : Record) (rest : Lis
     → drop at s ≡ recordBytes r ++ rest → Shaped d r → seen d s log (recordRow at r) ≡ asRead r
 seen-back d s log at r rest h k =
     let p = record-stands d s at r rest h k in
-    let e = go (r .deleted) (p .caption-is) in
-    rw (p .vector-is, e)
+    let e = go (r .deleted) (p .item .caption-is) in
+    rw (p .item .vector-is, e)
   where
     go : (t : Bool) → part s (at + 9 + captionOffset d) (length (r .caption)) ≡ r .caption
         → part s (at + 9 + captionOffset d) (length (cond t [] (r .caption))) ≡ cond t [] (r .caption)
@@ -197,7 +166,7 @@ unfolding fileRows
 length-rows at [] = refl
 length-rows at (r ∷ rs) = ap suc (length-rows (at + length (recordBytes r)) rs)
 
--- what record-stands behind the first record
+-- what stands behind the first record
 next-here : (s : List ℕ) (at : ℕ) (r : Record) (rs : List Record) (rest : List ℕ) → drop at s ≡ recordsBytes (r ∷ rs) ++ rest
     → (drop at s ≡ recordBytes r ++ (recordsBytes rs ++ rest)) × (drop (at + length (recordBytes r)) s ≡ recordsBytes rs ++ rest)
 unfolding recordsBytes

@@ -3,12 +3,11 @@
 use Prim.Native.Nat.{ℕ, zero, suc, _*_, _-_}
 use native.Mathlib.Omega.{arith}
 use mathlib.Core.Path.{_≡_, refl, sym, ap, ap₂, _∙_}
-use mathlib.Core.Bool.{Bool, true, false, cond}
+use mathlib.Core.Bool.{Bool, cond}
 use mathlib.Core.List.{List, [], _∷_, map, nil≢cons}
 use lib.ListN.{length, getD, length-map}
 use lib.Dec.{ltb}
 use Rattle.fields.specs.Fields.{Bytes}
-use Rattle.config.specs.Limits.{maxLogBytes}
 use Rattle.config.specs.declared.Config.{Config}
 use Rattle.refusal.specs.Refusal.{answer}
 use Rattle.meaning.specs.Replay.{Frame, Outcome, reached, stopped, Bounds, replay}
@@ -26,10 +25,9 @@ use Rattle.theorems.proofs.LogFit.{Logged, in-frames, frames-logged}
 use Rattle.theorems.proofs.Weighed.{Weighed, weighedKind, weighed, weighed-carries, frames-alike}
 use Rattle.theorems.specs.DeletedCaptions.{DifferInDeleted, placeless, withoutPlaces, toldWithoutCrc}
 use Rattle.theorems.proofs.ReadAlike.{ReadAlike, deleted-captions}
-use Rattle.theorems.proofs.Recovering.{recover-read, recover-long}
+use Rattle.theorems.proofs.Recovering.{recover-alike}
 use Rattle.theorems.specs.Compared.{compared}
 use Rattle.theorems.proofs.Halves.{compareWeighed, compared-weighed, weighed-alike}
-use borrow.Author.Tests.{ltb-false}
 
 abbrev endedWith : Config → Outcome Row → Recovery
 endedWith c (reached s keep) = recovered (record { config = c; crc = 0; state = s; keep = keep })
@@ -67,17 +65,11 @@ module _ (lent : ℕ) (s s' log : List ℕ) (x y : Snapshot) (e : readSnapshot l
       ∙ replay-carried (rowKind (y .config .dimensions)) (rowKind (y .config .dimensions)) placeless (placeless-carries (y .config .dimensions)) L (λ n. n) (y .sequence) (y .rows) (framesOf (y .config) log)
 
   same-answer : withoutPlaces (recover lent s log) ≡ withoutPlaces (recover lent s' log)
-  same-answer = go (ltb maxLogBytes (length log)) refl
-    where
-      go : (b : Bool) → ltb maxLogBytes (length log) ≡ b → withoutPlaces (recover lent s log) ≡ withoutPlaces (recover lent s' log)
-      go true l = ap withoutPlaces (recover-long lent s log l ∙ sym (recover-long lent s' log l))
-      go false l =
-          let n = ltb-false maxLogBytes (length log) l in
-          ap withoutPlaces (recover-read lent s log x e n)
-          ∙ ended-placeless x (replay (rowKind (x .config .dimensions)) L (x .sequence) (x .rows) (framesOf (x .config) log))
-          ∙ ap₂ endedWith (k .same-config) placeless-replay
-          ∙ sym (ended-placeless y (replay (rowKind (y .config .dimensions)) L (y .sequence) (y .rows) (framesOf (y .config) log)))
-          ∙ sym (ap withoutPlaces (recover-read lent s' log y e' n))
+  same-answer =
+      recover-alike withoutPlaces withoutPlaces lent s s' log x y e e' refl
+      (ended-placeless x (replay (rowKind (x .config .dimensions)) L (x .sequence) (x .rows) (framesOf (x .config) log))
+      ∙ ap₂ endedWith (k .same-config) placeless-replay
+      ∙ sym (ended-placeless y (replay (rowKind (y .config .dimensions)) L (y .sequence) (y .rows) (framesOf (y .config) log))))
 
   module _ (bl : Bytes log) where
     weighed-replay : CutFrames.summary (carryOutcome (weighed (x .config .dimensions) s log) (λ n. n) (replay (rowKind (x .config .dimensions)) L (x .sequence) (x .rows) (framesOf (x .config) log)))
@@ -100,17 +92,11 @@ module _ (lent : ℕ) (s s' log : List ℕ) (x y : Snapshot) (e : readSnapshot l
         ∙ ap (λ (c : Config). carryOutcome (weighed (c .dimensions) s' log) (λ n. n) (replay (rowKind (c .dimensions)) L (y .sequence) (y .rows) (framesOf c log))) (k .same-config))
 
     same-told : compared s log (recover lent s log) ≡ compared s' log (recover lent s' log)
-    same-told = go (ltb maxLogBytes (length log)) refl
-      where
-        go : (b : Bool) → ltb maxLogBytes (length log) ≡ b → compared s log (recover lent s log) ≡ compared s' log (recover lent s' log)
-        go true l = ap (compared s log) (recover-long lent s log l) ∙ sym (ap (compared s' log) (recover-long lent s' log l))
-        go false l =
-            let n = ltb-false maxLogBytes (length log) l in
-            ap (compared s log) (recover-read lent s log x e n)
-            ∙ compared-weighed s log x (replay (rowKind (x .config .dimensions)) L (x .sequence) (x .rows) (framesOf (x .config) log))
-            ∙ ap₂ (λ (c : Config). compareWeighed c log) (k .same-config) weighed-replay
-            ∙ sym (compared-weighed s' log y (replay (rowKind (y .config .dimensions)) L (y .sequence) (y .rows) (framesOf (y .config) log)))
-            ∙ sym (ap (compared s' log) (recover-read lent s' log y e' n))
+    same-told =
+        recover-alike (compared s log) (compared s' log) lent s s' log x y e e' refl
+        (compared-weighed s log x (replay (rowKind (x .config .dimensions)) L (x .sequence) (x .rows) (framesOf (x .config) log))
+        ∙ ap₂ (λ (c : Config). compareWeighed c log) (k .same-config) weighed-replay
+        ∙ sym (compared-weighed s' log y (replay (rowKind (y .config .dimensions)) L (y .sequence) (y .rows) (framesOf (y .config) log))))
 
 -- the whole answer, but for snapshot CRC and row offsets
 pub deleted-captions-answer : (lent : ℕ) (s s' log : List ℕ) (x y : Snapshot) → DifferInDeleted s s'

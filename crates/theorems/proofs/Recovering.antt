@@ -21,9 +21,10 @@ use Rattle.meaning.specs.Recovery.{Recovered, Recovery, recovered, refusedSnaps
 use Rattle.meaning.specs.Every.{Every}
 use Rattle.theorems.specs.Cut.{Ran}
 use Rattle.theorems.proofs.Ran.{Did, skips, plays, did, ran}
-use borrow.Author.Tests.{ltb-false, le-ltb}
+use borrow.Author.Tests.{ltb-false, ltb-true}
 use Rattle.meaning.proofs.FrameRead.{payload-read, frame-read}
 use Rattle.meaning.proofs.FramesAt.{frames-of, frames-induction}
+use Rattle.meaning.proofs.RecoverBegins.{too-long, short-enough}
 
 -- a replay that reaches an end reached a tail
 module _ {A : Type 0} (K : Kind A) (L : Bounds) (q : ℕ) where
@@ -133,11 +134,15 @@ module _ (lent : ℕ) (snapshot log : List ℕ) (r : Recovered) (a : Accepted le
 -- recovery once the snapshot is read
 pub recover-read : (lent : ℕ) (snapshot log : List ℕ) (s : Snapshot) → readSnapshot lent snapshot ≡ answer s → length log ≤ maxLogBytes
     → recover lent snapshot log ≡ replayLog lent log s
-unfolding recover
-recover-read lent snapshot log s e short =
-    ap (λ (b : Bool). cond b (refusedLog LogTooLong 0) (withSnapshot lent log (readSnapshot lent snapshot))) (le-ltb maxLogBytes (length log) short)
-    ∙ ap (withSnapshot lent log) e
+recover-read lent snapshot log s e short = short-enough lent snapshot log short ∙ ap (withSnapshot lent log) e
 
-pub recover-long : (lent : ℕ) (snapshot log : List ℕ) → ltb maxLogBytes (length log) ≡ true → recover lent snapshot log ≡ refusedLog LogTooLong 0
-unfolding recover
-recover-long lent snapshot log e = ap (λ (b : Bool). cond b (refusedLog LogTooLong 0) (withSnapshot lent log (readSnapshot lent snapshot))) e
+-- two snapshots beside one log: what is told alike of their replays, and of a log that is too long, is told alike of their recoveries
+pub recover-alike : {B : Type 0} (f g : Recovery → B) (lent : ℕ) (s s' log : List ℕ) (x y : Snapshot)
+    → readSnapshot lent s ≡ answer x → readSnapshot lent s' ≡ answer y
+    → f (refusedLog LogTooLong 0) ≡ g (refusedLog LogTooLong 0) → f (replayLog lent log x) ≡ g (replayLog lent log y)
+    → f (recover lent s log) ≡ g (recover lent s' log)
+recover-alike f g lent s s' log x y e e' long same = go (ltb maxLogBytes (length log)) refl
+  where
+    go : (b : Bool) → ltb maxLogBytes (length log) ≡ b → f (recover lent s log) ≡ g (recover lent s' log)
+    go true t = let n = ltb-true maxLogBytes (length log) t in ap f (too-long lent s log n) ∙ long ∙ sym (ap g (too-long lent s' log n))
+    go false t = let n = ltb-false maxLogBytes (length log) t in ap f (recover-read lent s log x e n) ∙ same ∙ sym (ap g (recover-read lent s' log y e' n))

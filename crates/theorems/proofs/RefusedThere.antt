@@ -6,7 +6,7 @@ use mathlib.Core.Bool.{Bool, true, false, cond}
 use mathlib.Core.List.{List, [], _∷_, _++_, nil≢cons}
 use lib.ListN.{length}
 use lib.Dec.{ltb}
-use borrow.Author.Tests.{ltb-true, ltb-false, lt-ltb}
+use borrow.Author.Tests.{ltb-true, ltb-false}
 use Rattle.config.specs.Limits.{maxLogBytes}
 use Rattle.config.specs.declared.Config.{Config}
 use Rattle.refusal.specs.Refusal.{Result, answer, refused}
@@ -16,17 +16,18 @@ use Rattle.rows.specs.declared.Row.{Row}
 use Rattle.meaning.specs.Replay.{Kind, Frame, End, tail, bad, Frames, State, Outcome, reached, stopped, Bounds, begins, onward, step, run, replay}
 use Rattle.meaning.specs.Records.{rowKind}
 use Rattle.meaning.specs.Snapshot.{Snapshot, readSnapshot}
-use Rattle.meaning.specs.Log.{ReadFrame, tooLittle, wrong, found, frameAt, goOn, framesOf}
+use Rattle.meaning.specs.Log.{ReadFrame, tooLittle, wrong, found, frameAt, goOn, framesOf, framesAt}
 use Rattle.meaning.specs.Recovery.{refusedLog, boundsFor, ended, withSnapshot, recover}
 use Rattle.meaning.proofs.FrameRead.{frame-bounds}
-use Rattle.meaning.proofs.FramesAt.{framesAt, frames-of, frames-at, frames-at-bad, frames-at-found, IsTail}
+use Rattle.meaning.proofs.FramesAt.{frames-of, frames-at, frames-at-bad, frames-at-found, IsTail}
 use Rattle.theorems.specs.FrameLists.{lastSequence, byteAfter}
 use Rattle.theorems.specs.Cut.{Ran, Cut, place}
 use Rattle.theorems.specs.RefusedAt.{FrameRefused, unread, unplayed, RefusedAt, tooLong, inFrame}
 use Rattle.theorems.proofs.Ran.{stopped≢reached, ran-on}
 use Rattle.theorems.proofs.LogLaws.{first-frame, after-frame}
 use Rattle.theorems.proofs.LogCut.{cut-inside, next-start}
-use Rattle.theorems.proofs.Recovering.{recover-read, recover-long}
+use Rattle.meaning.proofs.RecoverBegins.{too-long}
+use Rattle.theorems.proofs.Recovering.{recover-read}
 
 stopped-by : {A : Type 0} {w why : Refusal} {k at : ℕ} → _≡_ {A = Outcome A} (stopped w k) (stopped why at) → w ≡ why
 stopped-by e = cc
@@ -225,7 +226,7 @@ pub refused-if : (lent : ℕ) (snapshot log : List ℕ) (why : Refusal) (at : �
 refused-if lent snapshot log why at (tooLong long by place) =
     let is-why = sym by in
     let is-at = sym place in
-    recover-long lent snapshot log (lt-ltb maxLogBytes (length log) long) ∙ (λ i. refusedLog (is-why i) (is-at i))
+    too-long lent snapshot log long ∙ (λ i. refusedLog (is-why i) (is-at i))
 refused-if lent snapshot log why at (inFrame short cut place-is here) =
     recover-read lent snapshot log (cut .accepted) (cut .accepts) short
     ∙ ap (ended (cut .accepted)) (replays cut ∙ stops-there cut why here)

@@ -13,13 +13,9 @@ use Rattle.meaning.specs.Records.{source, captionStart}
 use Rattle.rows.specs.declared.Row.{Row}
 use Rattle.theorems.specs.Storable.{Sourced}
 use Rattle.utf8.proofs.Laws.{utf8-nil}
-use Rattle.theorems.proofs.ItemRead.{ItemHere}
+use Rattle.meaning.proofs.ItemRead.{ItemHere}
+use Rattle.meaning.proofs.SnapshotRead.{caption-low}
 use Rattle.utf8.specs.Utf8.{isUtf8}
-
--- a deleted row has no caption
-pub caption-low : (t : Bool) (n : ℕ) → cond t 0 n ≤ n
-caption-low true n = omega arith
-caption-low false n = omega arith
 
 pub row-sourced : (c : Config) (snapshot log : List ℕ) (r : Row) (end n : ℕ) → Bytes (source snapshot log r) → end ≤ length (source snapshot log r)
     → ItemHere c (source snapshot log r) end (r .at) n → r .id .0 < 256 ^ 8 → r .«caption_length» ≡ cond (r .deleted) 0 n → Sourced c snapshot log r

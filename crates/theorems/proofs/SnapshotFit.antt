@@ -1,13 +1,12 @@
 -- What was read is fit to be written.
-use Prim.Native.Nat.{ℕ, zero, suc, _+_, _≤_, _<_, _^_}
-use mathlib.Core.Path.{_≡_, refl, sym, ap, ap₂, subst}
+use Prim.Native.Nat.{ℕ, _+_, _≤_, _<_, _^_}
+use mathlib.Core.Path.{_≡_, refl, sym, ap, ap₂, subst, _∙_}
 use mathlib.Core.Bool.{false}
 use mathlib.Core.List.{List, [], _∷_, map}
 use native.Mathlib.Omega.{arith}
 use lib.ListN.{length}
-use lib.Dec.{eqb}
 use Rattle.crc32.specs.Crc.{crcOf}
-use Rattle.fields.specs.Fields.{part, num, Bytes}
+use Rattle.fields.specs.Fields.{part, Bytes}
 use Rattle.fields.proofs.Parts.{length-part}
 use Rattle.fields.proofs.Numbers.{num-lt}
 use Rattle.config.specs.Limits.{maxRecords, maxSnapshotBytes}
@@ -19,52 +18,21 @@ use Rattle.meaning.specs.Replay.{size}
 use Rattle.meaning.specs.Records.{rowKind, recordKind, source, captionStart, seen}
 use Rattle.rows.specs.declared.Row.{Row}
 use Rattle.layout.specs.Layout.{recordLength, metricLength, headerLength}
-use Rattle.meaning.specs.Snapshot.{bodyLength, headerConfig, headerCount, ReadRow, snapshotRow, recordAt, ReadRows, recordsAt, liveTwice, Snapshot, readSnapshot}
+use Rattle.meaning.specs.Snapshot.{bodyLength, headerConfig, headerCount, snapshotRow, ReadRows, liveTwice, Snapshot, readSnapshot}
 use Rattle.layout.specs.declared.Version.{Version}
 use Rattle.theorems.specs.Storable.{Fit, Sourced}
 use Rattle.meaning.specs.Every.{Every}
 use Rattle.theorems.proofs.RecordBack.{InFile}
-use Rattle.theorems.proofs.HeaderFacts.{HeaderFacts, headerIn}
-use Rattle.theorems.proofs.SnapshotFacts.{RecordRead, record-facts, SnapshotFacts, snapshotIn, snapshot-known}
-use Rattle.refusal.proofs.Results.{answer-injective, passed}
-use Rattle.theorems.proofs.RowSourced.{row-sourced, caption-low}
+use Rattle.meaning.proofs.EveryLaws.{every-map}
+use Rattle.meaning.proofs.HeaderRead.{HeaderFacts, headerIn}
+use Rattle.meaning.proofs.SnapshotRead.{RowRead, records-facts, PartsFacts, snapshotIn, snapshot-facts}
+use Rattle.theorems.proofs.RowSourced.{row-sourced}
 
--- rows read from `at` up to `next`
-pub record RowsFit (c : Config) (s : List ℕ) (at count next : ℕ) (rows : List Row) : Type 0 where
-  pub counted : length rows ≡ count
-  pub in-file : Every InFile rows
-  pub sourced : (log : List ℕ) → Every (Sourced c s log) rows
-  pub sized : at + size (rowKind (c .dimensions)) rows ≤ next
-
-rows-cons : (c : Config) (s : List ℕ) (end : ℕ) → Bytes s → end ≤ length s → (n at : ℕ) (y : ReadRow) (z : ReadRows)
-    → RecordRead c s end at y → RowsFit c s (y .next) n (z .next) (z .rows) → RowsFit c s at (suc n) (z .next) (y .row ∷ z .rows)
-unfolding size
-rows-cons c s end b h n at y z r f =
-    subst (λ (w : ReadRow). RowsFit c s (w .next) n (z .next) (z .rows) → RowsFit c s at (suc n) (z .next) (w .row ∷ z .rows)) (sym (r .is)) first f
-  where
-    first : RowsFit c s (at + recordLength (c .dimensions) (r .caption)) n (z .next) (z .rows)
-        → RowsFit c s at (suc n) (z .next) (snapshotRow c s at (r .caption) .row ∷ z .rows)
-    first g =
-        let t = eqb (num s (at + 8) 1) 1 in
-        record {
-          counted = ap suc (g .counted);
-          in-file = (refl, g .in-file);
-          sourced = λ log. (row-sourced c s log (snapshotRow c s at (r .caption) .row) end (r .caption) b h (r .facts .item) (num-lt s at 8 b) refl, g .sourced log);
-          sized = omega (arith, caption-low t (r .caption), g .sized);
-        }
-
-pub rows-fit : (c : Config) (s : List ℕ) (end : ℕ) → Bytes s → end ≤ length s → (n at : ℕ) (x : ReadRows)
-    → recordsAt n c s end at ≡ answer x → RowsFit c s at n (x .next) (x .rows)
-unfolding recordsAt size
-rows-fit c s end b h zero at x e =
-    subst (λ (y : ReadRows). RowsFit c s at 0 (y .next) (y .rows)) (answer-injective _ x e)
-    (record { counted = refl; in-file = tt; sourced = λ log. tt; sized = omega arith })
-rows-fit c s end b h (suc n) at x e =
-    let s1 = passed (recordAt c s end at) _ x e in
-    let r = record-facts c s end at (s1 .value) (s1 .first) in
-    let s2 = passed (recordsAt n c s end (s1 .value .next)) _ x (s1 .then) in
-    let f = rows-fit c s end b h n (s1 .value .next) (s2 .value) (s2 .first) in
-    subst (λ (y : ReadRows). RowsFit c s at (suc n) (y .next) (y .rows)) (answer-injective _ x (s2 .then)) (rows-cons c s end b h n at (s1 .value) (s2 .value) r f)
+-- the row of a record that was read
+read-sourced : (c : Config) (s log : List ℕ) (end : ℕ) → Bytes s → end ≤ length s → (r : Row) → RowRead c s end r → Sourced c s log r
+read-sourced c s log end b h r w =
+    subst (Sourced c s log) (sym (w .is))
+    (row-sourced c s log (snapshotRow c s (w .at) (w .caption) .row) end (w .caption) b h (w .facts .item) (num-lt s (w .at) 8 b) refl)
 
 -- what an accepted snapshot is
 pub record SnapshotFits (lent : ℕ) (s : List ℕ) (x : Snapshot) : Type 0 where
@@ -81,11 +49,11 @@ pub record SnapshotFits (lent : ℕ) (s : List ℕ) (x : Snapshot) : Type 0 wher
   pub sized : size (rowKind (x .config .dimensions)) (x .rows) + 52 ≤ length s
   pub short : length s ≤ maxSnapshotBytes
 
-fits-of-facts : (lent : ℕ) (s : List ℕ) (v : Version) (metric : Metric) (found : ReadRows) → Bytes s → HeaderFacts s v metric
-    → SnapshotFacts lent s (headerIn v s metric) found → SnapshotFits lent s (snapshotIn s (headerIn v s metric) found)
-fits-of-facts lent s v metric found b h f =
+fits-of-parts : (lent : ℕ) (s : List ℕ) (v : Version) (metric : Metric) (found : ReadRows) → Bytes s → HeaderFacts s v metric
+    → PartsFacts lent s (headerIn v s metric) found → liveTwice (found .rows) ≡ false → SnapshotFits lent s (snapshotIn s (headerIn v s metric) found)
+fits-of-parts lent s v metric found b h f once =
     let c = headerConfig v s metric in
-    let k : RowsFit c s (headerLength v) (headerCount v s) (found .next) (found .rows) = rows-fit c s (bodyLength s) b (omega arith) (headerCount v s) (headerLength v) found (f .records-are) in
+    let k = records-facts (headerCount v s) c s (bodyLength s) (headerLength v) found (f .records-are) in
     let sized = k .sized in
     let counted = k .counted in
     let ends = f .ends in
@@ -101,17 +69,19 @@ fits-of-facts lent s v metric found b h f =
       crc-fits = num-lt s (bodyLength s) 4 b;
       enough = omega arith;
       few = omega arith;
-      in-file = k .in-file;
-      sourced = k .sourced;
-      once = f .once;
+      in-file = every-map (RowRead c s (bodyLength s)) InFile (λ r w. ap (λ (y : Row). y .«from_log») (w .is)) (found .rows) (k .each);
+      sourced = λ log. every-map (RowRead c s (bodyLength s)) (Sourced c s log) (λ r w. read-sourced c s log (bodyLength s) b (omega arith) r w) (found .rows) (k .each);
+      once = once;
       sized = omega arith;
       short = h .short-enough;
     }
 
 pub snapshot-fits : (lent : ℕ) (s : List ℕ) (x : Snapshot) → Bytes s → readSnapshot lent s ≡ answer x → SnapshotFits lent s x
 snapshot-fits lent s x b e =
-    let k = snapshot-known lent s x e in
-    subst (SnapshotFits lent s) (k .is) (fits-of-facts lent s (k .version) (k .metric) (k .found) b (k .header) (k .facts))
+    let r = snapshot-facts lent s x e in
+    let k = r .parts in
+    subst (SnapshotFits lent s) (k .is)
+    (fits-of-parts lent s (k .version) (k .metric) (k .found) b (k .header) (k .facts) (ap (λ (y : Snapshot). liveTwice (y .rows)) (k .is) ∙ r .once))
 
 -- ---- the records that sourced rows show
 pub seen-fit : (c : Config) (s log : List ℕ) (rows : List Row) → Every (Sourced c s log) rows → Every (Fit c) (map (seen (c .dimensions) s log) rows)

@@ -8,7 +8,7 @@ use lib.ListN.{length, getD, replicate, length-map, length-append, length-replic
 use Rattle.fields.specs.Fields.{Bytes}
 use Rattle.refusal.specs.Refusal.{answer}
 use Rattle.rows.specs.Lent.{rowsLent}
-use Rattle.rows.specs.Rows.{rowOf, rowAt, rowWord}
+use Rattle.rows.specs.Rows.{rowOf, rowAt, rowWord, RowFits}
 use Rattle.rows.proofs.RowLaws.{row-of-word}
 use Rattle.rows.specs.declared.Row.{Row}
 use Rattle.meaning.specs.Snapshot.{Snapshot, readSnapshot}
@@ -16,7 +16,7 @@ use Rattle.meaning.specs.Tables.{Tables, rowWords, activeNodes, filled, tablesF
 use Rattle.meaning.specs.Recovery.{Recovery, recovered, refusedSnapshot, refusedLog, recover, rowsOf}
 use Rattle.meaning.specs.Calls.{recoverCall, recoverTables}
 use Rattle.meaning.specs.Every.{Every}
-use Rattle.meaning.proofs.RowWords.{Packs, length-rowWords}
+use Rattle.meaning.proofs.RowWords.{length-rowWords}
 use Rattle.theorems.proofs.Written.{recovered-packs}
 use Rattle.theorems.specs.DeletedCaptions.{DifferInDeleted, placeless, withoutPlaces, SameButPlaces}
 use Rattle.theorems.proofs.RecoverAlike.{placeless-active, deleted-captions-answer}
@@ -27,7 +27,7 @@ zero-there zero k = refl
 zero-there (suc m) zero = refl
 zero-there (suc m) (suc k) = zero-there m k
 
-row-there : (rows : List Row) (m node : ℕ) → Every Packs rows → rowAt (rowWords rows ++ replicate m 0) node ≡ getD rows node (rowOf 0 0)
+row-there : (rows : List Row) (m node : ℕ) → Every RowFits rows → rowAt (rowWords rows ++ replicate m 0) node ≡ getD rows node (rowOf 0 0)
 unfolding rowAt rowWords
 row-there [] m node p = ap₂ rowOf (zero-there m (2 * node)) (zero-there m (2 * node + 1))
 row-there (r ∷ rs) m zero p = row-of-word r (p .0)
@@ -37,7 +37,7 @@ row-there (r ∷ rs) m (suc n) p =
     let j : 2 * suc n + 1 ≡ suc (suc (2 * n + 1)) = omega arith in
     ap₂ (λ (x y : ℕ). rowOf (getD words x 0) (getD words y 0)) i j ∙ row-there rs m n (p .1)
 
-module _ (words entries : List ℕ) (rows rows' : List Row) (packs : Every Packs rows) (packs' : Every Packs rows') (same : map placeless rows ≡ map placeless rows') where
+module _ (words entries : List ℕ) (rows rows' : List Row) (packs : Every RowFits rows) (packs' : Every RowFits rows') (same : map placeless rows ≡ map placeless rows') where
   tables-same : SameButPlaces (tablesFor words entries rows) (tablesFor words entries rows')
   tables-same =
       let n = length words in

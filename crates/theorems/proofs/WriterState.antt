@@ -1,5 +1,5 @@
 -- The writer takes every row that lies in its sources: of rows that are sourced it refuses nothing for 30 or 31.
-use Prim.Native.Nat.{ℕ, _+_, _-_, _≤_}
+use Prim.Native.Nat.{ℕ, _+_, _≤_}
 use native.Mathlib.Omega.{arith}
 use mathlib.Core.Path.{_≡_, refl, sym, ap, _∙_}
 use mathlib.Core.Bool.{Bool, true, false, not, cond}
@@ -14,13 +14,13 @@ use Rattle.rows.specs.Lent.{rowsLentPlain}
 use Rattle.refusal.specs.Refusal.{answer}
 use Rattle.refusal.specs.declared.Refusal.the-variants.{NoSuchNode, RowDoesNotFit}
 use Rattle.meaning.specs.Records.{source, captionStart, seen}
+use Rattle.rows.specs.Rows.{RowFits}
 use Rattle.rows.specs.declared.Row.{Row}
 use Rattle.meaning.specs.Tables.{rowWords, rowsIn, filled}
 use Rattle.meaning.specs.Writer.{misfit, anyMisfit, stateRows, written, fileOfRows, writeValid, write}
 use Rattle.layout.specs.declared.Extent.{Extent}
 use Rattle.theorems.specs.Storable.{Sourced}
 use Rattle.meaning.specs.Every.{Every}
-use Rattle.meaning.proofs.RowWords.{Packs}
 use Rattle.theorems.proofs.TableRows.{rows-of-table}
 use borrow.Author.Tests.{le-ltb, eq-eqb}
 use Rattle.refusal.proofs.Results.{pass, go-on}
@@ -49,7 +49,7 @@ module _ (c : Config) (snapshot log : List ℕ) where
   none-misfit (r ∷ rs) all = ap (λ x. cond x true (anyMisfit c snapshot log rs)) (sourced-fits r (all .0)) ∙ none-misfit rs (all .1)
 
   -- a table of sourced rows is taken as it is
-  pub state-taken : (n : ℕ) (rows : List Row) → Every (Sourced c snapshot log) rows → Every Packs rows
+  pub state-taken : (n : ℕ) (rows : List Row) → Every (Sourced c snapshot log) rows → Every RowFits rows
       → length rows ≤ rowsLentPlain (filled n (rowWords rows))
       → stateRows c (filled n (rowWords rows)) (length rows) snapshot log ≡ answer rows
   unfolding stateRows
@@ -62,7 +62,7 @@ module _ (c : Config) (snapshot log : List ℕ) where
       pass NoSuchNode _ _ a ∙ pass RowDoesNotFit _ _ b ∙ ap answer e
 
   -- so the writer comes to 34 and 32
-  pub writer-comes : (extent : Extent) (q n room : ℕ) (rows : List Row) → validate c ≡ answer tt → Every (Sourced c snapshot log) rows → Every Packs rows
+  pub writer-comes : (extent : Extent) (q n room : ℕ) (rows : List Row) → validate c ≡ answer tt → Every (Sourced c snapshot log) rows → Every RowFits rows
       → length rows ≤ rowsLentPlain (filled n (rowWords rows))
       → write extent c q (filled n (rowWords rows)) (length rows) snapshot log room ≡ fileOfRows c q snapshot log room (written extent rows)
   unfolding write writeValid

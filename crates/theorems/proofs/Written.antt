@@ -14,6 +14,7 @@ use Rattle.rows.specs.Lent.{rowsLent, rowsLentPlain}
 use Rattle.refusal.specs.Refusal.{answer, refuse, _>>=_}
 use Rattle.refusal.specs.declared.Refusal.the-variants.{TooLarge, OutputTooShort}
 use Rattle.meaning.specs.Records.{Record, seen}
+use Rattle.rows.specs.Rows.{RowFits}
 use Rattle.rows.specs.declared.Row.{Row}
 use Rattle.meaning.specs.File.{fileOf}
 use Rattle.meaning.specs.Recovery.{Recovered, recovered, recover, recordsOf, recordCount, rowsOf}
@@ -24,9 +25,9 @@ use Rattle.layout.specs.Layout.{captionOffset}
 use Rattle.layout.specs.declared.Extent.{Extent}
 use Rattle.layout.specs.declared.Extent.the-variants.{Full}
 use Rattle.meaning.specs.Every.{Every}
-use Rattle.theorems.proofs.Every.{every-map}
+use Rattle.meaning.proofs.EveryLaws.{every-map}
 use Rattle.theorems.specs.Storable.{Sourced}
-use Rattle.meaning.proofs.RowWords.{Packs, length-rowWords}
+use Rattle.meaning.proofs.RowWords.{length-rowWords}
 use Rattle.theorems.proofs.WriterState.{caption-there, writer-comes}
 use Rattle.theorems.proofs.SnapshotFit.{snapshot-fits}
 use Rattle.theorems.proofs.Seen.{sourced-front}
@@ -36,7 +37,7 @@ use Rattle.theorems.specs.Cut.{fullSnapshot}
 use Rattle.theorems.proofs.Halves.{seen-fronts}
 
 -- a row that lies in sources of this size keeps to its widths
-pub row-packs : (c : Config) (snapshot log : List ℕ) → length snapshot ≤ maxSnapshotBytes → length log ≤ maxLogBytes → (r : Row) → Sourced c snapshot log r → Packs r
+pub row-packs : (c : Config) (snapshot log : List ℕ) → length snapshot ≤ maxSnapshotBytes → length log ≤ maxLogBytes → (r : Row) → Sourced c snapshot log r → RowFits r
 row-packs c snapshot log ls ll r p =
     let n = caption-there c snapshot log r p in
     let k : r .«caption_length» ≤ maxMetadata = let h = p .fit .caption-length in omega arith in
@@ -48,12 +49,12 @@ row-packs c snapshot log ls ll r p =
     at-most false at h = omega arith
 
 -- so does every row that recovery gives
-pub recovered-packs : (lent : ℕ) (snapshot log : List ℕ) (r : Recovered) → Bytes snapshot → Bytes log → recover lent snapshot log ≡ recovered r → Every Packs (rowsOf r)
+pub recovered-packs : (lent : ℕ) (snapshot log : List ℕ) (r : Recovered) → Bytes snapshot → Bytes log → recover lent snapshot log ≡ recovered r → Every RowFits (rowsOf r)
 recovered-packs lent snapshot log r bs bl given =
     let a = accepted lent snapshot log r given in
     let c = a .read .config in
     let f = snapshot-fits lent snapshot (a .read) bs (a .reads) in
-    every-map (Sourced c snapshot log) Packs (row-packs c snapshot log (f .short) (a .short)) (rowsOf r) (standing lent snapshot log r bs bl a .sourced)
+    every-map (Sourced c snapshot log) RowFits (row-packs c snapshot log (f .short) (a .short)) (rowsOf r) (standing lent snapshot log r bs bl a .sourced)
 
 -- a table that was lent is as long after as before
 length-filled : (n : ℕ) (words : List ℕ) → length words ≤ n → length (filled n words) ≡ n

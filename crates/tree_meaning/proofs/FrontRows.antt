@@ -9,16 +9,16 @@ use lib.ListN.{length, getD, set}
 use borrow.Author.Tests.{eq-eqb, ne-eqb, eqb-true}
 use Rattle.meaning.specs.Every.{Every}
 use Rattle.meaning.specs.Replay.{active, mark, markOne, liveAs, size}
+use Rattle.rows.specs.Rows.{RowFits, rowWord}
 use Rattle.rows.specs.declared.Row.{Row}
 use Rattle.meaning.specs.Records.{rowKind, deleteRow}
 use Rattle.layout.specs.Layout.{recordLength}
 use Rattle.meaning.specs.Snapshot.{liveTwice}
 use Rattle.meaning.specs.Tables.{rowWords}
-use Rattle.meaning.proofs.RowWords.{Packs}
 use Rattle.links.specs.Links.{deletedUnit, deletedWord, captionLength, captionFreed, marked}
 use Rattle.tree.specs.Grown.{idOf, Live, Absent, Once}
 use Rattle.tree.proofs.RowLaws.{marked-at}
-use Rattle.tree_meaning.proofs.RowFacts.{wordOf, live-row, row-live, caption-row, deleted-row}
+use Rattle.tree_meaning.proofs.RowFacts.{live-row, row-live, caption-row, deleted-row}
 
 -- ---- a row in front
 
@@ -66,11 +66,11 @@ once-behind i w ws n once u v p q h l m e =
 
 -- ---- the first row
 
-module _ (d id : ℕ) (r : Row) (packs : Packs r) where
+module _ (d id : ℕ) (r : Row) (packs : RowFits r) where
   -- the first row is the live one of this ID, or not
   pub data First : Type 0 where
     this : r .deleted ≡ false → r .id .0 ≡ id → liveAs (rowKind d) id r ≡ true → First
-    not-this : (wordOf r < deletedUnit → r .id .0 ≡ id → ⊥) → liveAs (rowKind d) id r ≡ false → First
+    not-this : (rowWord r < deletedUnit → r .id .0 ≡ id → ⊥) → liveAs (rowKind d) id r ≡ false → First
 
   pub first : First
   first = go (r .deleted) refl (eqb (r .id .0) id) refl
@@ -87,19 +87,19 @@ cond-true false c e = e
 -- ---- none is live
 
 module _ (d id : ℕ) (rest : List ℕ) where
-  pub none-active : (rows : List Row) → Every Packs rows → Absent (rowWords rows ++ rest) (length rows) id → active (rowKind d) id rows ≡ false
+  pub none-active : (rows : List Row) → Every RowFits rows → Absent (rowWords rows ++ rest) (length rows) id → active (rowKind d) id rows ≡ false
   unfolding active rowWords
   none-active [] all a = refl
-  none-active (r ∷ rs) all a = go (first d id r (all .0)) (none-active rs (all .1) (absent-behind (r .id .0) (wordOf r) (rowWords rs ++ rest) (length rs) id a))
+  none-active (r ∷ rs) all a = go (first d id r (all .0)) (none-active rs (all .1) (absent-behind (r .id .0) (rowWord r) (rowWords rs ++ rest) (length rs) id a))
     where
       go : First d id r (all .0) → active (rowKind d) id rs ≡ false → cond (liveAs (rowKind d) id r) true (active (rowKind d) id rs) ≡ false
       go (this e f t) more = absurd (a 1 (omega arith) (omega arith) (row-live r (all .0) e) f)
       go (not-this n t) more = ap (λ (b : Bool). cond b true (active (rowKind d) id rs)) t ∙ more
 
-  pub none-marked : (rows : List Row) → Every Packs rows → Absent (rowWords rows ++ rest) (length rows) id → mark (rowKind d) id rows ≡ rows
+  pub none-marked : (rows : List Row) → Every RowFits rows → Absent (rowWords rows ++ rest) (length rows) id → mark (rowKind d) id rows ≡ rows
   unfolding mark rowWords
   none-marked [] all a = refl
-  none-marked (r ∷ rs) all a = go (first d id r (all .0)) (none-marked rs (all .1) (absent-behind (r .id .0) (wordOf r) (rowWords rs ++ rest) (length rs) id a))
+  none-marked (r ∷ rs) all a = go (first d id r (all .0)) (none-marked rs (all .1) (absent-behind (r .id .0) (rowWord r) (rowWords rs ++ rest) (length rs) id a))
     where
       go : First d id r (all .0) → mark (rowKind d) id rs ≡ rs → cond (liveAs (rowKind d) id r) (deleteRow r) r ∷ mark (rowKind d) id rs ≡ r ∷ rs
       go (this e f t) more = absurd (a 1 (omega arith) (omega arith) (row-live r (all .0) e) f)
@@ -113,19 +113,19 @@ pub record Marks (d id : ℕ) (rows : List Row) (rest : List ℕ) (u : ℕ) : Ty
   pub sizes : size (rowKind d) (mark (rowKind d) id rows) + captionFreed (rowWords rows ++ rest) u ≡ size (rowKind d) rows
 
 module _ (d id : ℕ) (rest : List ℕ) where
-  first-marks : (r : Row) (rs : List Row) → Packs r → Every Packs rs → Once (rowWords (r ∷ rs) ++ rest) (suc (length rs)) → r .deleted ≡ false
+  first-marks : (r : Row) (rs : List Row) → RowFits r → Every RowFits rs → Once (rowWords (r ∷ rs) ++ rest) (suc (length rs)) → r .deleted ≡ false
       → r .id .0 ≡ id → liveAs (rowKind d) id r ≡ true → Marks d id (r ∷ rs) rest 1
   unfolding mark size rowWords marked captionFreed
   first-marks r rs p all once e f t =
       let absent : Absent (rowWords rs ++ rest) (length rs) id
-      = λ u q h l g. once 1 (suc u) (omega arith) (omega arith) (omega arith) (row-live r p e) (live-behind (r .id .0) (wordOf r) (rowWords rs ++ rest) u q l) (f ∙ sym g ∙ sym (id-behind (r .id .0) (wordOf r) (rowWords rs ++ rest) u q)) in
+      = λ u q h l g. once 1 (suc u) (omega arith) (omega arith) (omega arith) (row-live r p e) (live-behind (r .id .0) (rowWord r) (rowWords rs ++ rest) u q l) (f ∙ sym g ∙ sym (id-behind (r .id .0) (rowWord r) (rowWords rs ++ rest) u q)) in
       let m : mark (rowKind d) id rs ≡ rs = none-marked d id rest rs all absent in
       let k : markOne (rowKind d) id r ≡ deleteRow r = ap (λ (b : Bool). cond b (deleteRow r) r) t in
       let c = caption-row r p in
       record {
         words = ap (λ (x : ℕ). r .id .0 ∷ x ∷ (rowWords rs ++ rest)) (deleted-row r p e)
             ∙ ap₂ (λ (x : Row) (xs : List Row). rowWords (x ∷ xs) ++ rest) (sym k) (sym m);
-        sizes = ap₂ (λ (x : Row) (xs : List Row). recordLength d (x .«caption_length») + size (rowKind d) xs + captionLength (wordOf r)) k m ∙ omega arith;
+        sizes = ap₂ (λ (x : Row) (xs : List Row). recordLength d (x .«caption_length») + size (rowKind d) xs + captionLength (rowWord r)) k m ∙ omega arith;
       }
 
   later-marks : (r : Row) (rs : List Row) (u : ℕ) → 0 < u → liveAs (rowKind d) id r ≡ false → Marks d id rs rest u → Marks d id (r ∷ rs) rest (suc u)
@@ -133,15 +133,15 @@ module _ (d id : ℕ) (rest : List ℕ) where
   later-marks r rs u p t m =
       let k : markOne (rowKind d) id r ≡ r = ap (λ (b : Bool). cond b (deleteRow r) r) t in
       let s = m .sizes in
-      let f : captionFreed (r .id .0 ∷ wordOf r ∷ (rowWords rs ++ rest)) (suc u) ≡ captionFreed (rowWords rs ++ rest) u = freed-behind (r .id .0) (wordOf r) (rowWords rs ++ rest) u p in
+      let f : captionFreed (r .id .0 ∷ rowWord r ∷ (rowWords rs ++ rest)) (suc u) ≡ captionFreed (rowWords rs ++ rest) u = freed-behind (r .id .0) (rowWord r) (rowWords rs ++ rest) u p in
       record {
-        words = marked-behind (r .id .0) (wordOf r) (rowWords rs ++ rest) u p
-            ∙ ap (λ (l : List ℕ). r .id .0 ∷ wordOf r ∷ l) (m .words)
+        words = marked-behind (r .id .0) (rowWord r) (rowWords rs ++ rest) u p
+            ∙ ap (λ (l : List ℕ). r .id .0 ∷ rowWord r ∷ l) (m .words)
             ∙ ap (λ (x : Row). rowWords (x ∷ mark (rowKind d) id rs) ++ rest) (sym k);
         sizes = ap₂ (λ (x : Row) (c : ℕ). recordLength d (x .«caption_length») + size (rowKind d) (mark (rowKind d) id rs) + c) k f ∙ omega arith;
       }
 
-  pub found-marks : (rows : List Row) → Every Packs rows → Once (rowWords rows ++ rest) (length rows)
+  pub found-marks : (rows : List Row) → Every RowFits rows → Once (rowWords rows ++ rest) (length rows)
       → (u : ℕ) → 0 < u → u ≤ length rows → Live (rowWords rows ++ rest) u → idOf (rowWords rows ++ rest) u ≡ id → Marks d id rows rest u
   unfolding rowWords
   found-marks [] all once u p h l e = absurd (omega arith)
@@ -153,14 +153,14 @@ module _ (d id : ℕ) (rest : List ℕ) where
       here (not-this n t) = absurd (n l e)
   found-marks (r ∷ rs) all once (suc (suc u)) p h l e =
       go (first d id r (all .0))
-      (found-marks rs (all .1) (once-behind (r .id .0) (wordOf r) (rowWords rs ++ rest) (length rs) once) (suc u) (omega arith) (omega arith)
-      (behind-live (r .id .0) (wordOf r) (rowWords rs ++ rest) (suc u) (omega arith) l) (sym (id-behind (r .id .0) (wordOf r) (rowWords rs ++ rest) (suc u) (omega arith)) ∙ e))
+      (found-marks rs (all .1) (once-behind (r .id .0) (rowWord r) (rowWords rs ++ rest) (length rs) once) (suc u) (omega arith) (omega arith)
+      (behind-live (r .id .0) (rowWord r) (rowWords rs ++ rest) (suc u) (omega arith) l) (sym (id-behind (r .id .0) (rowWord r) (rowWords rs ++ rest) (suc u) (omega arith)) ∙ e))
     where
       go : First d id r (all .0) → Marks d id rs rest (suc u) → Marks d id (r ∷ rs) rest (suc (suc u))
       go (this a b t) more = absurd (once 1 (suc (suc u)) (omega arith) (omega arith) h (row-live r (all .0) a) l (b ∙ sym e))
       go (not-this n t) more = later-marks r rs (suc u) (omega arith) t more
 
-  pub live-active : (rows : List Row) → Every Packs rows
+  pub live-active : (rows : List Row) → Every RowFits rows
       → (u : ℕ) → 0 < u → u ≤ length rows → Live (rowWords rows ++ rest) u → idOf (rowWords rows ++ rest) u ≡ id → active (rowKind d) id rows ≡ true
   unfolding rowWords active
   live-active [] all u p h l e = absurd (omega arith)
@@ -173,7 +173,7 @@ module _ (d id : ℕ) (rest : List ℕ) where
   live-active (r ∷ rs) all (suc (suc u)) p h l e =
       cond-true (liveAs (rowKind d) id r) (active (rowKind d) id rs)
       (live-active rs (all .1) (suc u) (omega arith) (omega arith)
-      (behind-live (r .id .0) (wordOf r) (rowWords rs ++ rest) (suc u) (omega arith) l) (sym (id-behind (r .id .0) (wordOf r) (rowWords rs ++ rest) (suc u) (omega arith)) ∙ e))
+      (behind-live (r .id .0) (rowWord r) (rowWords rs ++ rest) (suc u) (omega arith) l) (sym (id-behind (r .id .0) (rowWord r) (rowWords rs ++ rest) (suc u) (omega arith)) ∙ e))
 
 -- ---- no ID is live twice
 
@@ -188,7 +188,7 @@ not-again true a b e f g = true≢false f
 not-again false true b e f g = true≢false e
 not-again false false b e f g = false≢true g
 
-pub once-rows : (rows : List Row) (rest : List ℕ) → Every Packs rows → liveTwice rows ≡ false → Once (rowWords rows ++ rest) (length rows)
+pub once-rows : (rows : List Row) (rest : List ℕ) → Every RowFits rows → liveTwice rows ≡ false → Once (rowWords rows ++ rest) (length rows)
 unfolding liveTwice rowWords
 once-rows [] rest all t u v p q h l m e = omega arith
 once-rows (r ∷ rs) rest all t zero v p q h l m e = omega arith
@@ -196,26 +196,26 @@ once-rows (r ∷ rs) rest all t (suc u) zero p q h l m e = omega arith
 once-rows (r ∷ rs) rest all t (suc zero) (suc v) p q h l m e =
     let k : 0 < v = omega arith in
     not-again (r .deleted) (active (rowKind 0) (r .id .0) rs) (liveTwice rs) t (live-row r (all .0) l)
-    (live-active 0 (r .id .0) rest rs (all .1) v k (omega arith) (behind-live (r .id .0) (wordOf r) (rowWords rs ++ rest) v k m) (sym (id-behind (r .id .0) (wordOf r) (rowWords rs ++ rest) v k) ∙ sym e))
+    (live-active 0 (r .id .0) rest rs (all .1) v k (omega arith) (behind-live (r .id .0) (rowWord r) (rowWords rs ++ rest) v k m) (sym (id-behind (r .id .0) (rowWord r) (rowWords rs ++ rest) v k) ∙ sym e))
 once-rows (r ∷ rs) rest all t (suc (suc u)) (suc v) p q h l m e =
     let k : 0 < v = omega arith in
     let j : 0 < suc u = omega arith in
     once-rows rs rest (all .1) (twice-parts (r .deleted) (active (rowKind 0) (r .id .0) rs) (liveTwice rs) t) (suc u) v j (omega arith) (omega arith)
-    (behind-live (r .id .0) (wordOf r) (rowWords rs ++ rest) (suc u) j l) (behind-live (r .id .0) (wordOf r) (rowWords rs ++ rest) v k m)
-    (sym (id-behind (r .id .0) (wordOf r) (rowWords rs ++ rest) (suc u) j) ∙ e ∙ id-behind (r .id .0) (wordOf r) (rowWords rs ++ rest) v k)
+    (behind-live (r .id .0) (rowWord r) (rowWords rs ++ rest) (suc u) j l) (behind-live (r .id .0) (rowWord r) (rowWords rs ++ rest) v k m)
+    (sym (id-behind (r .id .0) (rowWord r) (rowWords rs ++ rest) (suc u) j) ∙ e ∙ id-behind (r .id .0) (rowWord r) (rowWords rs ++ rest) v k)
 
 -- and the other way round
-pub rows-once : (rows : List Row) (rest : List ℕ) → Every Packs rows → Once (rowWords rows ++ rest) (length rows) → liveTwice rows ≡ false
+pub rows-once : (rows : List Row) (rest : List ℕ) → Every RowFits rows → Once (rowWords rows ++ rest) (length rows) → liveTwice rows ≡ false
 unfolding liveTwice rowWords
 rows-once [] rest all once = refl
 rows-once (r ∷ rs) rest all once =
-    go (r .deleted) refl (rows-once rs rest (all .1) (once-behind (r .id .0) (wordOf r) (rowWords rs ++ rest) (length rs) once))
+    go (r .deleted) refl (rows-once rs rest (all .1) (once-behind (r .id .0) (rowWord r) (rowWords rs ++ rest) (length rs) once))
   where
     -- no row behind a live one has its ID and is live
     alone : r .deleted ≡ false → Absent (rowWords rs ++ rest) (length rs) (r .id .0)
     alone e u p h l k =
-        once 1 (suc u) (omega arith) (omega arith) (omega arith) (row-live r (all .0) e) (live-behind (r .id .0) (wordOf r) (rowWords rs ++ rest) u p l)
-        (sym (id-behind (r .id .0) (wordOf r) (rowWords rs ++ rest) u p ∙ k))
+        once 1 (suc u) (omega arith) (omega arith) (omega arith) (row-live r (all .0) e) (live-behind (r .id .0) (rowWord r) (rowWords rs ++ rest) u p l)
+        (sym (id-behind (r .id .0) (rowWord r) (rowWords rs ++ rest) u p ∙ k))
 
     go : (a : Bool) → r .deleted ≡ a → liveTwice rs ≡ false
         → cond (r .deleted) (liveTwice rs) (cond (active (rowKind 0) (r .id .0) rs) true (liveTwice rs)) ≡ false

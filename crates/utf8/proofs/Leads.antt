@@ -45,21 +45,17 @@ range-of n low high t b h e =
     let y : T (in-range low high b) = simp (eq-eqb (leadingZeros 8 (255 - b)) n e) at x in
     record { at-least = leb→le low b (and-left (leb low b) (leb b high) y); at-most = leb→le b high (and-right (leb low b) (leb b high) y) }
 
-pub ones-0 : (b : ℕ) → b < 256 → leadingZeros 8 (255 - b) ≡ 0 → Range 0x00 0x7F b
-unfolding ranged in-range leadingZeros
-ones-0 b h e = range-of 0 0x00 0x7F tt b h e
+-- the range of a byte, by its leading ones
+pub record Leads (b : ℕ) : Type 0 where
+  pub none : leadingZeros 8 (255 - b) ≡ 0 → Range 0x00 0x7F b
+  pub two : leadingZeros 8 (255 - b) ≡ 2 → Range 0xC0 0xDF b
+  pub three : leadingZeros 8 (255 - b) ≡ 3 → Range 0xE0 0xEF b
+  pub four : leadingZeros 8 (255 - b) ≡ 4 → Range 0xF0 0xF7 b
 
-pub ones-2 : (b : ℕ) → b < 256 → leadingZeros 8 (255 - b) ≡ 2 → Range 0xC0 0xDF b
+pub leads : (b : ℕ) → b < 256 → Leads b
 unfolding ranged in-range leadingZeros
-ones-2 b h e = range-of 2 0xC0 0xDF tt b h e
-
-pub ones-3 : (b : ℕ) → b < 256 → leadingZeros 8 (255 - b) ≡ 3 → Range 0xE0 0xEF b
-unfolding ranged in-range leadingZeros
-ones-3 b h e = range-of 3 0xE0 0xEF tt b h e
-
-pub ones-4 : (b : ℕ) → b < 256 → leadingZeros 8 (255 - b) ≡ 4 → Range 0xF0 0xF7 b
-unfolding ranged in-range leadingZeros
-ones-4 b h e = range-of 4 0xF0 0xF7 tt b h e
+leads b h =
+    record { none = range-of 0 0x00 0x7F tt b h; two = range-of 2 0xC0 0xDF tt b h; three = range-of 3 0xE0 0xEF tt b h; four = range-of 4 0xF0 0xF7 tt b h }
 
 -- any other count: a tail, or nothing that RFC 3629 has
 other : ℕ → Bool

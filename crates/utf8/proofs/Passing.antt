@@ -27,6 +27,10 @@ passes-char s at n h k e =
       same = omega arith;
     }
 
+-- one more character
+pub passes-next : {s : List ℕ} {at i n : ℕ} → Passes s at i → 0 < n → n ≡ charLength (drop i s) → Passes s at (i + n)
+passes-next {s} {at} {i} {n} p k e = passes-on p (passes-char s i n (p .inside) k e)
+
 -- k octets from `at` on that are ASCII
 pub passes-ascii : (s : List ℕ) (at k : ℕ) → at + k ≤ length s → ((i : ℕ) → i < k → getD s (at + i) 0 < 128) → Passes s at (at + k)
 passes-ascii s at k h small =

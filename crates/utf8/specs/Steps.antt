@@ -14,18 +14,21 @@ pub record Passes (s : List ℕ) (at to : ℕ) : Type 0 where
   pub inside : to ≤ length s
   pub same : at + validFront (drop at s) ≡ to + validFront (drop to s)
 
--- the bounds of the second octet, by the first
+-- the bounds of the second octet, by the first: one first octet has its own
+abbrev pub boundOf : ℕ → ℕ → ℕ → ℕ → ℕ
+boundOf special own other a = cond (eqb a special) own other
+
 abbrev pub low3Of : ℕ → ℕ
-low3Of a = cond (eqb a 0xE0) 0xA0 0x80
+low3Of = boundOf 0xE0 0xA0 0x80
 
 abbrev pub high3Of : ℕ → ℕ
-high3Of a = cond (eqb a 0xED) 0x9F 0xBF
+high3Of = boundOf 0xED 0x9F 0xBF
 
 abbrev pub low4Of : ℕ → ℕ
-low4Of a = cond (eqb a 0xF0) 0x90 0x80
+low4Of = boundOf 0xF0 0x90 0x80
 
 abbrev pub high4Of : ℕ → ℕ
-high4Of a = cond (eqb a 0xF4) 0x8F 0xBF
+high4Of = boundOf 0xF4 0x8F 0xBF
 
 -- all octets or-ed: below 128 only if each is
 unfoldable pub orAll : List ℕ → ℕ

@@ -5,7 +5,7 @@ ghost use Prim.Native.Nat.{_+_, _<_, _≤_};
 ghost use lib.Bits.{bitOr};
 ghost use lib.ListN.{length, getD, take, drop};
 ghost use Rattle.utf8.specs.Utf8.{Range, charLength, validFront, isUtf8};
-ghost use Rattle.utf8.specs.Steps.{Passes, low3Of, high3Of, low4Of, high4Of, orAll, orEight, wordOf, halfOf, asciiFront};
+ghost use Rattle.utf8.specs.Steps.{Passes, boundOf, orAll, orEight, wordOf, halfOf, asciiFront};
 
 // Whether s is UTF-8.
 pub fn is_utf8(s: &[u8]) -> bool
@@ -74,10 +74,10 @@ fn three(s: &[u8], at: usize) -> usize
     }
     let a = s[at];
     let b = s[at + 1];
-    if b < low3(a) {
+    if b < bound(a, 0xE0, 0xA0, 0x80) {
         return 0;
     }
-    if high3(a) < b {
+    if bound(a, 0xED, 0x9F, 0xBF) < b {
         return 0;
     }
     if s[at + 2] / 64 != 2 {
@@ -99,10 +99,10 @@ fn four(s: &[u8], at: usize) -> usize
     if 0xF4 < a {
         return 0;
     }
-    if b < low4(a) {
+    if b < bound(a, 0xF0, 0x90, 0x80) {
         return 0;
     }
-    if high4(a) < b {
+    if bound(a, 0xF4, 0x8F, 0xBF) < b {
         return 0;
     }
     if s[at + 2] / 64 != 2 {
@@ -114,29 +114,11 @@ fn four(s: &[u8], at: usize) -> usize
     4
 }
 
-// The bounds of the second byte after the first byte a: no overlong form, no surrogate, nothing above 10FFFF.
-fn low3(a: u8) -> u8
-    ensures { λ r. ⌜ r ≡ low3Of a ⌝ }
+// A bound of the second byte: one first byte has its own, so that no overlong form, no surrogate and nothing above 10FFFF is taken.
+fn bound(a: u8, special: u8, own: u8, other: u8) -> u8
+    ensures { λ r. ⌜ r ≡ boundOf special own other a ⌝ }
 {
-    if a == 0xE0 { 0xA0 } else { 0x80 }
-}
-
-fn high3(a: u8) -> u8
-    ensures { λ r. ⌜ r ≡ high3Of a ⌝ }
-{
-    if a == 0xED { 0x9F } else { 0xBF }
-}
-
-fn low4(a: u8) -> u8
-    ensures { λ r. ⌜ r ≡ low4Of a ⌝ }
-{
-    if a == 0xF0 { 0x90 } else { 0x80 }
-}
-
-fn high4(a: u8) -> u8
-    ensures { λ r. ⌜ r ≡ high4Of a ⌝ }
-{
-    if a == 0xF4 { 0x8F } else { 0xBF }
+    if a == special { own } else { other }
 }
 
 // A character of n bytes is mostly followed by others of n bytes, which pass with fewer tests here.

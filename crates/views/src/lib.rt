@@ -34,6 +34,9 @@ enum Named {
     Refused(Refusal),
 }
 
+// What a view is asked: the count, the node and d.
+struct Asked(usize, Node, usize);
+
 // The part that a view gives.
 pub enum Viewed {
     Part(Part),
@@ -128,18 +131,10 @@ pub fn view(
 }
 
 // Where the view refuses, the empty part at the snapshot's start.
-fn part_given(
-    shown: Shown,
-    snapshot: &[u8],
-    log: &[u8],
-    rows: &[u64],
-    count: usize,
-    node: Node,
-    d: usize,
-) -> Part
-    ensures { λ r. ⌜ r ≡ given (viewOf shown d (now (rows .entry)) count (node .0) (now (snapshot .entry)) (now (log .entry))) ⌝ }
+fn part_given(shown: Shown, asked: Asked, snapshot: &[u8], log: &[u8], rows: &[u64]) -> Part
+    ensures { λ r. ⌜ r ≡ given (viewOf shown (asked .2) (now (rows .entry)) (asked .0) (asked .1 .0) (now (snapshot .entry)) (now (log .entry))) ⌝ }
 {
-    match view(shown, snapshot, log, rows, count, node, d) {
+    match view(shown, snapshot, log, rows, asked.0, asked.1, asked.2) {
         Viewed::Part(part) => part,
         Viewed::Refused(_) => Part {
             from_log: false,
@@ -151,32 +146,22 @@ fn part_given(
 
 fn bytes_given<'a>(
     shown: Shown,
+    asked: Asked,
     snapshot: &'a [u8],
     log: &'a [u8],
     rows: &[u64],
-    count: usize,
-    node: Node,
-    d: usize,
 ) -> &'a [u8]
-    ensures { λ r. ⌜ now r ≡ bytesOf (now (snapshot .entry)) (now (log .entry)) (given (viewOf shown d (now (rows .entry)) count (node .0) (now (snapshot .entry)) (now (log .entry)))) ⌝ }
-    ensures { λ r. ⌜ r .ptr ≡ startOf (snapshot .entry .ptr) (log .entry .ptr) (given (viewOf shown d (now (rows .entry)) count (node .0) (now (snapshot .entry)) (now (log .entry)))) ⌝ }
+    ensures { λ r. ⌜ now r ≡ bytesOf (now (snapshot .entry)) (now (log .entry)) (given (viewOf shown (asked .2) (now (rows .entry)) (asked .0) (asked .1 .0) (now (snapshot .entry)) (now (log .entry)))) ⌝ }
+    ensures { λ r. ⌜ r .ptr ≡ startOf (snapshot .entry .ptr) (log .entry .ptr) (given (viewOf shown (asked .2) (now (rows .entry)) (asked .0) (asked .1 .0) (now (snapshot .entry)) (now (log .entry)))) ⌝ }
 {
-    let part = part_given(shown, snapshot, log, rows, count, node, d);
+    let part = part_given(shown, asked, snapshot, log, rows);
     sources::cut(snapshot, log, part)
 }
 
-fn number_told(
-    shown: Shown,
-    snapshot: &[u8],
-    log: &[u8],
-    rows: &[u64],
-    count: usize,
-    node: Node,
-    d: usize,
-) -> u32
-    ensures { λ r. ⌜ r ≡ numberTold (viewOf shown d (now (rows .entry)) count (node .0) (now (snapshot .entry)) (now (log .entry))) ⌝ }
+fn number_told(shown: Shown, asked: Asked, snapshot: &[u8], log: &[u8], rows: &[u64]) -> u32
+    ensures { λ r. ⌜ r ≡ numberTold (viewOf shown (asked .2) (now (rows .entry)) (asked .0) (asked .1 .0) (now (snapshot .entry)) (now (log .entry))) ⌝ }
 {
-    match view(shown, snapshot, log, rows, count, node, d) {
+    match view(shown, snapshot, log, rows, asked.0, asked.1, asked.2) {
         Viewed::Part(_) => 0,
         Viewed::Refused(why) => why.number(),
     }
@@ -194,7 +179,7 @@ pub fn caption_view<'a>(
     ensures { λ r. ⌜ now r ≡ bytesOf (now (snapshot .entry)) (now (log .entry)) (given (viewOf Caption d (now (rows .entry)) count (node .0) (now (snapshot .entry)) (now (log .entry)))) ⌝ }
     ensures { λ r. ⌜ r .ptr ≡ startOf (snapshot .entry .ptr) (log .entry .ptr) (given (viewOf Caption d (now (rows .entry)) count (node .0) (now (snapshot .entry)) (now (log .entry)))) ⌝ }
 {
-    bytes_given(Shown::Caption, snapshot, log, rows, count, node, d)
+    bytes_given(Shown::Caption, Asked(count, node, d), snapshot, log, rows)
 }
 
 // 0 where nothing is refused.
@@ -208,7 +193,7 @@ pub fn caption_number(
 ) -> u32
     ensures { λ r. ⌜ r ≡ numberTold (viewOf Caption d (now (rows .entry)) count (node .0) (now (snapshot .entry)) (now (log .entry))) ⌝ }
 {
-    number_told(Shown::Caption, snapshot, log, rows, count, node, d)
+    number_told(Shown::Caption, Asked(count, node, d), snapshot, log, rows)
 }
 
 // The vector's coordinate bytes where they lie, as `caption_view`. `vector_number` tells the number.
@@ -223,7 +208,7 @@ pub fn vector_view<'a>(
     ensures { λ r. ⌜ now r ≡ bytesOf (now (snapshot .entry)) (now (log .entry)) (given (viewOf Vector d (now (rows .entry)) count (node .0) (now (snapshot .entry)) (now (log .entry)))) ⌝ }
     ensures { λ r. ⌜ r .ptr ≡ startOf (snapshot .entry .ptr) (log .entry .ptr) (given (viewOf Vector d (now (rows .entry)) count (node .0) (now (snapshot .entry)) (now (log .entry)))) ⌝ }
 {
-    bytes_given(Shown::Vector, snapshot, log, rows, count, node, d)
+    bytes_given(Shown::Vector, Asked(count, node, d), snapshot, log, rows)
 }
 
 // 0 where nothing is refused.
@@ -237,5 +222,5 @@ pub fn vector_number(
 ) -> u32
     ensures { λ r. ⌜ r ≡ numberTold (viewOf Vector d (now (rows .entry)) count (node .0) (now (snapshot .entry)) (now (log .entry))) ⌝ }
 {
-    number_told(Shown::Vector, snapshot, log, rows, count, node, d)
+    number_told(Shown::Vector, Asked(count, node, d), snapshot, log, rows)
 }

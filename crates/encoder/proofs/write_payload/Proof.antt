@@ -15,23 +15,26 @@ use borrow.Author.Needs.{needs}
 use Rattle.encoder.proofs.write_payload.Statement.{statement}
 use Rattle.encoder.proofs.write_payload.Tie as tie
 
+-- what is asked of the shape holds of the shape that it is
+checked : (s : tie.Start) (x : Shape) → s .args .shape ≡ x → wordsChecked x (length (now (s .args .operations))) ≡ answer tt
+checked s x e = subst (λ (y : Shape). wordsChecked y (length (now (s .args .operations))) ≡ answer tt) e (s .pre .1 .0)
+
+room : (s : tie.Start) (x : Shape) → s .args .shape ≡ x
+    → length (payloadBytes x (s .args .sequence) (taggedOf (s .args .config) (now (s .args .operations)) (now (s .args .coordinates)) (now (s .args .captions)))) ≤ length (now (s .args .out))
+room s x e = subst (λ (y : Shape). length (payloadBytes y (s .args .sequence) (taggedOf (s .args .config) (now (s .args .operations)) (now (s .args .coordinates)) (now (s .args .captions)))) ≤ length (now (s .args .out))) e (s .pre .1 .1)
+
 write-single-requires : tie.Need-write-single-requires
 write-single-requires c κs =
     let s = c .before .before .before .before .before .before .before in
-    let a = s .args in
-    let words = now (a .operations) in
     let e = c .before .enum-told .given .1 in
-    let k = counting Single (length words) (subst (λ (x : Shape). wordsChecked x (length words) ≡ answer tt) e (s .pre .1 .0)) in
-    (s .pre .0, (omega (arith, k .count, k .even), subst (λ (x : Shape). length (payloadBytes x (a .sequence) (taggedOf (a .config) words (now (a .coordinates)) (now (a .captions)))) ≤ length (now (a .out))) e (s .pre .1 .1)))
+    let k = counting Single _ (checked s Single e) in
+    (s .pre .0, (omega (arith, k .count, k .even), room s Single e))
 
 write-batch-requires : tie.Need-write-batch-requires
 write-batch-requires c κs =
     let s = c .before .before .before .before .before .before .before in
-    let a = s .args in
-    let words = now (a .operations) in
     let e = c .before .enum-told2 .given .1 in
-    let k = counting Batch (length words) (subst (λ (x : Shape). wordsChecked x (length words) ≡ answer tt) e (s .pre .1 .0)) in
-    (s .pre .0, (k .few, subst (λ (x : Shape). length (payloadBytes x (a .sequence) (taggedOf (a .config) words (now (a .coordinates)) (now (a .captions)))) ≤ length (now (a .out))) e (s .pre .1 .1)))
+    (s .pre .0, (counting Batch _ (checked s Batch e) .few, room s Batch e))
 
 returns : tie.Need-returns
 returns c =

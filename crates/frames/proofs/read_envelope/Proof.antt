@@ -7,7 +7,7 @@ use Rattle.frames.specs.Envelope.{envelopeAt}
 use Rattle.refusal.specs.Refusal.{answer}
 use Rattle.refusal.proofs.Results.{sized-is, sized-not}
 use Rattle.meaning.specs.Log.{lengthAt}
-use Rattle.frames.proofs.Envelopes.{length-bounds}
+use Rattle.meaning.proofs.FrameRead.{length-read}
 use borrow.Author.Needs.{needs}
 use Rattle.frames.proofs.read_envelope.Statement.{statement}
 use Rattle.frames.proofs.read_envelope.Tie as tie
@@ -23,7 +23,7 @@ unfolding envelopeAt
 returns c = simp (lt-ltb _ _ (c .if1 .taken))
 
 within-requires : tie.Need-within-requires
-within-requires c κs = length-bounds _ _ _ (length-is (c .before)) .1
+within-requires c κs = length-read _ _ _ (length-is (c .before)) .most
 
 returns-2 : tie.Need-returns-2
 unfolding envelopeAt

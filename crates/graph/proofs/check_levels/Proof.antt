@@ -7,10 +7,9 @@ use denote.Ref.{now}
 use lib.ListN.{length}
 use Rattle.graph.specs.Cache.{readLevel}
 use Rattle.graph.specs.Marks.{Under}
-use Rattle.graph.proofs.Decode.{level-within}
+use Rattle.graph.proofs.Decode.{level-next}
 use Rattle.graph.proofs.Listing.{Running, running-none, running-more, running-stop, running-done}
 use Rattle.graph.proofs.Marking.{under-more}
-use Rattle.graph.proofs.Several.{found}
 use Rattle.graph.proofs.check_levels.Statement.{statement}
 use Rattle.graph.proofs.check_levels.Tie as tie
 
@@ -21,55 +20,35 @@ abbrev μ-loop : tie.MeasureT-loop
 μ-loop s end m count node levels first marks₀ at₀ level₀ marks at level = levels - level
 
 loop-holds : tie.Need-loop-holds Inv-loop μ-loop
-loop-holds c =
-    let a = c .before .before .args in
-    let s = now (a .s) in
-    let pre = c .before .before .pre in
-    running-none (readLevel (a .m) (a .count) s (a .end) (a .node)) (a .end) (a .levels) (a .first) (length (now (a .marks))) (now (a .marks)) (pre .1 .0) refl (pre .1 .1 .1 .1)
+loop-holds c = let pre = c .before .before .pre in running-none (pre .in-body) refl (pre .all-under)
 
 check-level-requires : tie.Need-check-level-requires Inv-loop μ-loop
 check-level-requires c κs =
     let pre = c .before .before .before .before .before .pre in
     let l = (c .before .before .loop) in
     let same = l .inv .same in
-    (pre .0, (l .inv .within, (pre .1 .1 .0, (omega (arith, pre .1 .1 .1 .0), l .inv .under))))
+    record { in-file = pre .in-file; in-body = l .inv .within; small-m = pre .small-m; all-marked = omega (arith, pre .all-marked); all-under = l .inv .under }
 
 same-length : tie.Need-same-length Inv-loop μ-loop
 same-length c = c .before .before .before .before .before .check-level .kept .1 .1 .1 .1 .1 .1 .1 .0 ∙ c .before .before .before .before .before .before .before .before .loop .inv .same
 
 returns : tie.Need-returns Inv-loop μ-loop
 returns c =
-    let a = c .before .before .before .before .before .before .before .before .before .before .before .args in
-    let s = now (a .s) in
-    let pre = c .before .before .before .before .before .before .before .before .before .before .before .pre in
-    let l = (c .before .before .before .before .before .before .before .before .loop) in
-    (running-stop (readLevel (a .m) (a .count) s (a .end) (a .node)) (a .end) (a .levels) (a .first) (length (now (a .marks))) (l .marks) (l .at) (l .level) (c .before .why .given .0 .0) (l .inv) (c .before .before .before .before .before .before .before .loop-test .taken) (sym (c .before .before .before .before .before .check-level .ensures .0) ∙ c .before .why .given .1), (λ n e. absurd (let z : _≡_ {A = ℕ} 0 1 = cc in omega arith)))
-
-add-level : tie.Need-add-level Inv-loop μ-loop
-add-level c = let t = c .before .before .before .before .before .before .before .loop-test .taken in omega arith
-
-loop-less : tie.Need-loop-less Inv-loop μ-loop
-loop-less c = let t = c .before .before .before .before .before .before .before .loop-test .taken in omega arith
+    (running-stop (c .before .before .before .before .before .before .before .before .loop .inv) (c .before .before .before .before .before .before .before .loop-test .taken) (sym (c .before .before .before .before .before .check-level .ensures .0) ∙ c .before .why .given .1), (λ n e. absurd (let z : _≡_ {A = ℕ} 0 1 = cc in omega arith)))
 
 loop-again : tie.Need-loop-again Inv-loop μ-loop
 loop-again c =
     let a = c .before .before .before .before .before .before .before .before .before .before .before .args in
-    let s = now (a .s) in
-    let pre = c .before .before .before .before .before .before .before .before .before .before .before .pre in
     let l = (c .before .before .before .before .before .before .before .before .loop) in
-    let told = sym (c .before .before .before .before .before .check-level .ensures .0) ∙ c .before .next .given .1 in
-    let f = found (readLevel (a .m) (a .count) s (a .end) (a .node) (l .level) (l .at)) (c .before .next .given .0 .0) told in
-    let w = level-within (a .m) (a .count) s (a .end) (a .node) (l .level) (l .at) (f .read) (l .inv .within) (f .is) in
-    let n = f .next-is in
-    running-more (readLevel (a .m) (a .count) s (a .end) (a .node)) (a .end) (a .levels) (a .first) (length (now (a .marks))) (l .marks) _ (l .at) (l .level) (c .before .next .given .0 .0) (l .inv) (c .before .before .before .before .before .before .before .loop-test .taken) told (omega arith) (c .before .before .before .before .before .check-level .kept .1 .1 .1 .1 .1 .1 .1 .0) (under-more _ (l .at + 5) (c .before .next .given .0 .0 + 1) (omega arith) (c .before .before .before .before .before .check-level .ensures .1))
+    let k = c .before .before .before .before .before .check-level in
+    let told = sym (k .ensures .0) ∙ c .before .next .given .1 in
+    let w = level-next (a .m) (a .count) (now (a .s)) (a .end) (a .node) (l .level) (l .at) (c .before .next .given .0 .0) (l .inv .within) told in
+    running-more (l .inv) (c .before .before .before .before .before .before .before .loop-test .taken) told (w .1) (k .kept .1 .1 .1 .1 .1 .1 .1 .0) (under-more _ (l .at + 5) (c .before .next .given .0 .0 + 1) (omega arith) (k .ensures .1))
 
 returns-2 : tie.Need-returns-2 Inv-loop μ-loop
 returns-2 c =
-    let a = c .before .before .before .before .args in
-    let s = now (a .s) in
-    let pre = c .before .before .before .before .pre in
     let l = (c .before .loop) in
-    (running-done (readLevel (a .m) (a .count) s (a .end) (a .node)) (a .end) (a .levels) (a .first) (length (now (a .marks))) (l .marks) (l .at) (l .level) (l .inv) (c .loop-test .left), λ n e. let q : l .at ≡ n = cc in subst (λ (k : ℕ). Under (l .marks) (k + 1)) q (l .inv .under))
+    (running-done (l .inv) (c .loop-test .left), λ n e. let q : l .at ≡ n = cc in subst (λ (k : ℕ). Under (l .marks) (k + 1)) q (l .inv .under))
 
 pub check-levels-spec : {M : Type 1} → statement M
 check-levels-spec =
@@ -83,8 +62,8 @@ check-levels-spec =
     (λ c. search needs)
     same-length
     returns
-    add-level
-    loop-less
+    (λ c. let t = c .before .before .before .before .before .before .before .loop-test .taken in omega arith)
+    (λ c. let t = c .before .before .before .before .before .before .before .loop-test .taken in omega arith)
     loop-again
     (λ c. c .before .loop .inv .same)
     returns-2)

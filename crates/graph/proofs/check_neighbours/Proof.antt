@@ -1,5 +1,5 @@
 -- `check_neighbours` answers the list. The invariant: those passed bear the list's mark, and no other node does.
-use Prim.Native.Nat.{_-_}
+use Prim.Native.Nat.{_+_, _-_, _≤_}
 use native.Mathlib.Omega.{arith}
 use mathlib.Core.Path.{refl}
 use borrow.Author.Needs.{needs}
@@ -16,40 +16,31 @@ abbrev μ-loop : tie.MeasureT-loop
 μ-loop s end count node degree first marks₀ mark at₀ i₀ marks at i = degree - i
 
 loop-holds : tie.Need-loop-holds Inv-loop μ-loop
-loop-holds c =
-    let a = c .before .before .args in
-    let pre = c .before .before .pre in
-    listing-none (now (a .s)) (a .end) (a .count) (a .node) (a .degree) (a .first) (length (now (a .marks))) (now (a .marks)) (pre .1 .0) refl (pre .1 .1 .1)
+loop-holds c = let pre = c .before .before .pre in listing-none (pre .1 .0) refl (pre .1 .1 .1)
+
+-- a neighbour's four bytes are there
+room : (c : tie.After-get-u32 Inv-loop μ-loop) → c .before .before .before .loop .at + 4 ≤ c .before .before .before .before .before .before .args .end
+room c = let w = c .before .before .before .loop .inv .within in let t = c .before .if1 .left in omega arith
 
 returns : tie.Need-returns Inv-loop μ-loop
 returns c =
-    let a = c .before .before .before .before .before .args in
     let l = (c .before .before .loop) in
-    let pre = c .before .before .before .before .before .pre in
     let w = l .inv .within in
     let t = c .if1 .taken in
-    (listing-past (now (a .s)) (a .end) (a .count) (a .node) (a .degree) (a .first) (length (now (a .marks))) (l .marks) (l .at) (l .i) (l .inv) (c .before .loop-test .taken) (omega arith), l .inv .under)
+    (listing-past (l .inv) (c .before .loop-test .taken) (omega arith), l .inv .under)
 
 get-u32-requires : tie.Need-get-u32-requires Inv-loop μ-loop
 get-u32-requires c κs = let w = c .before .before .loop .inv .within in let t = c .if1 .left in omega (arith, c .before .before .before .before .before .pre .0)
 
 returns-2 : tie.Need-returns-2 Inv-loop μ-loop
 returns-2 c =
-    let a = c .before .before .before .before .before .before .before .args in
     let l = (c .before .before .before .before .loop) in
-    let pre = c .before .before .before .before .before .before .before .pre in
-    let w = l .inv .within in
-    let t = c .before .before .if1 .left in
-    (listing-high (now (a .s)) (a .end) (a .count) (a .node) (a .degree) (a .first) (length (now (a .marks))) (l .marks) (l .at) (l .i) (l .inv) (c .before .before .before .loop-test .taken) (c .before .get-u32 .result) (c .before .get-u32 .ensures) (omega arith) (c .if2 .taken), l .inv .under)
+    (listing-high (l .inv) (c .before .before .before .loop-test .taken) (c .before .get-u32 .ensures) (room (c .before)) (c .if2 .taken), l .inv .under)
 
 returns-3 : tie.Need-returns-3 Inv-loop μ-loop
 returns-3 c =
-    let a = c .before .before .before .before .before .before .before .before .args in
     let l = (c .before .before .before .before .before .loop) in
-    let pre = c .before .before .before .before .before .before .before .before .pre in
-    let w = l .inv .within in
-    let t = c .before .before .before .if1 .left in
-    (listing-self (now (a .s)) (a .end) (a .count) (a .node) (a .degree) (a .first) (length (now (a .marks))) (l .marks) (l .at) (l .i) (l .inv) (c .before .before .before .before .loop-test .taken) (c .before .before .get-u32 .result) (c .before .before .get-u32 .ensures) (omega arith) (c .before .if2 .left) (c .if3 .taken), l .inv .under)
+    (listing-self (l .inv) (c .before .before .before .before .loop-test .taken) (c .before .before .get-u32 .ensures) (room (c .before .before)) (c .before .if2 .left) (c .if3 .taken), l .inv .under)
 
 slice-read-if4 : tie.Need-slice-read-if4 Inv-loop μ-loop
 slice-read-if4 c =
@@ -58,12 +49,8 @@ slice-read-if4 c =
 
 returns-4 : tie.Need-returns-4 Inv-loop μ-loop
 returns-4 c =
-    let a = c .before .before .before .before .before .before .before .before .before .before .args in
     let l = (c .before .before .before .before .before .before .before .loop) in
-    let pre = c .before .before .before .before .before .before .before .before .before .before .pre in
-    let w = l .inv .within in
-    let t = c .before .before .before .before .before .if1 .left in
-    (listing-again (now (a .s)) (a .end) (a .count) (a .node) (a .degree) (a .first) (length (now (a .marks))) (l .marks) (l .at) (l .i) (l .inv) (c .before .before .before .before .before .before .loop-test .taken) (c .before .before .before .before .get-u32 .result) (c .before .before .before .before .get-u32 .ensures) (omega arith) (c .before .before .before .if2 .left) (c .before .before .if3 .left) (c .if4 .taken), l .inv .under)
+    (listing-again (l .inv) (c .before .before .before .before .before .before .loop-test .taken) (c .before .before .before .before .get-u32 .ensures) (room (c .before .before .before .before)) (c .before .before .before .if2 .left) (c .before .before .if3 .left) (c .if4 .taken), l .inv .under)
 
 slice-write-marks : tie.Need-slice-write-marks Inv-loop μ-loop
 slice-write-marks c =
@@ -75,18 +62,10 @@ add-at c = let w = c .before .before .before .before .before .before .before .lo
 
 loop-again : tie.Need-loop-again Inv-loop μ-loop
 loop-again c =
-    let a = c .before .before .before .before .before .before .before .before .before .before .args in
-    let l = (c .before .before .before .before .before .before .before .loop) in
-    let pre = c .before .before .before .before .before .before .before .before .before .before .pre in
-    let w = l .inv .within in
-    let t = c .before .before .before .before .before .if1 .left in
-    listing-more (now (a .s)) (a .end) (a .count) (a .node) (a .degree) (a .first) (length (now (a .marks))) (l .marks) (l .at) (l .i) (l .inv) (c .before .before .before .before .before .before .loop-test .taken) (c .before .before .before .before .get-u32 .result) (c .before .before .before .before .get-u32 .ensures) (omega arith) (pre .1 .1 .0) (c .before .before .before .if2 .left) (c .before .before .if3 .left) (c .if4 .left)
+    listing-more (c .before .before .before .before .before .before .before .loop .inv) (c .before .before .before .before .before .before .loop-test .taken) (c .before .before .before .before .get-u32 .ensures) (room (c .before .before .before .before)) (c .before .before .before .before .before .before .before .before .before .before .pre .1 .1 .0) (c .before .before .before .if2 .left) (c .before .before .if3 .left) (c .if4 .left)
 
 returns-5 : tie.Need-returns-5 Inv-loop μ-loop
-returns-5 c =
-    let a = c .before .before .before .before .args in
-    let l = (c .before .loop) in
-    (listing-done (now (a .s)) (a .end) (a .count) (a .node) (a .degree) (a .first) (length (now (a .marks))) (l .marks) (l .at) (l .i) (l .inv) (c .loop-test .left), l .inv .under)
+returns-5 c = let l = (c .before .loop) in (listing-done (l .inv) (c .loop-test .left), l .inv .under)
 
 pub check-neighbours-spec : {M : Type 1} → statement M
 check-neighbours-spec =

@@ -22,14 +22,16 @@ loop-holds c =
     let a = c .before .args in
     (search needs, c .before .pre, above-all (a .level) (now (a .s)) (a .first))
 
+-- the part of the level below lies inside
+inside : (c : tie.After-part Inv-loop μ-loop) → c .part .given .0 .0 + c .part .given .0 .1 .0 ≤ length (now (c .before .before .before .before .before .before .args .s))
+inside c =
+    let s = now (c .before .before .before .before .before .before .args .s) in
+    let at = c .before .before .before .before .loop .at in
+    let e = part-told (levelPart s at) (c .part .given .0 .0) (c .part .given .0 .1 .0) (sym (c .before .before .level-part .ensures) ∙ c .part .given .1) in
+    part-inside s at (record { at = c .part .given .0 .0; size = c .part .given .0 .1 .0 }) e
+
 add-at : tie.Need-add-at Inv-loop μ-loop
-add-at c =
-    let a = c .before .before .before .before .before .before .before .args in
-    let s = now (a .s) in
-    let l = (c .before .before .before .before .before .loop) in
-    let e = part-told (levelPart s (l .at)) (c .before .part .given .0 .0) (c .before .part .given .0 .1 .0) (sym (c .before .before .before .level-part .ensures) ∙ c .before .part .given .1) in
-    let within = part-inside s (l .at) (record { at = c .before .part .given .0 .0; size = c .before .part .given .0 .1 .0 }) e in
-    omega arith
+add-at c = let within = inside (c .before) in omega arith
 
 returns : tie.Need-returns Inv-loop μ-loop
 returns c =
@@ -43,9 +45,7 @@ loop-again c =
     let a = c .before .before .before .before .before .before .before .args in
     let s = now (a .s) in
     let l = (c .before .before .before .before .before .loop) in
-    let e = part-told (levelPart s (l .at)) (c .before .part .given .0 .0) (c .before .part .given .0 .1 .0) (sym (c .before .before .before .level-part .ensures) ∙ c .before .part .given .1) in
-    let within = part-inside s (l .at) (record { at = c .before .part .given .0 .0; size = c .before .part .given .0 .1 .0 }) e in
-    (search needs, within, sym (above-turn (a .level) (l .i) s (l .at) (c .before .before .before .before .loop-test .taken) ∙ ap (onShown (λ p size. shownTold (levelAbove (a .level - (l .i + 1)) s (p + size)))) (sym (c .before .before .before .level-part .ensures) ∙ c .before .part .given .1)) ∙ l .inv .2)
+    (search needs, inside (c .before), sym (above-turn (a .level) (l .i) s (l .at) (c .before .before .before .before .loop-test .taken) ∙ ap (onShown (λ p size. shownTold (levelAbove (a .level - (l .i + 1)) s (p + size)))) (sym (c .before .before .before .level-part .ensures) ∙ c .before .part .given .1)) ∙ l .inv .2)
 
 returns-2 : tie.Need-returns-2 Inv-loop μ-loop
 returns-2 c =

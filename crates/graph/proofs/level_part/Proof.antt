@@ -20,27 +20,26 @@ returns c =
     let r : length s < at + 4 = omega (arith, c .if1 .taken, c .before .before .pre) in
     simp (lt-ltb _ _ r)
 
+-- the degree's four bytes are there, and what they say
+room : (c : tie.After-get-u32) → c .before .before .before .args .at + 4 ≤ length (now (c .before .before .before .args .s))
+room c = omega (arith, c .before .if1 .left, c .before .before .before .pre)
+
+size : (c : tie.After-get-u32) → 4 * c .get-u32 .result ≡ 4 * num (now (c .before .before .before .args .s)) (c .before .before .before .args .at) 4
+size c = ap (λ (n : ℕ). 4 * n) (c .get-u32 .ensures)
+
 returns-2 : tie.Need-returns-2
 unfolding levelPart
 returns-2 c =
     let a = c .before .before .before .before .args in
-    let s = now (a .s) in
-    let at = a .at in
-    let d : 4 * c .before .get-u32 .result ≡ 4 * num s at 4 = ap (λ (n : ℕ). 4 * n) (c .before .get-u32 .ensures) in
-    let r : at + 4 ≤ length s = omega (arith, c .before .before .if1 .left, c .before .before .before .before .pre) in
-    let f : length s < at + 4 + 4 * num s at 4 = omega (arith, c .if2 .taken, d, r) in
-    simp (le-ltb _ _ r, lt-ltb _ _ f)
+    let f : length (now (a .s)) < a .at + 4 + 4 * num (now (a .s)) (a .at) 4 = omega (arith, c .if2 .taken, size (c .before), room (c .before)) in
+    simp (le-ltb _ _ (room (c .before)), lt-ltb _ _ f)
 
 returns-3 : tie.Need-returns-3
 unfolding levelPart
 returns-3 c =
     let a = c .before .before .before .before .args in
-    let s = now (a .s) in
-    let at = a .at in
-    let d : 4 * c .before .get-u32 .result ≡ 4 * num s at 4 = ap (λ (n : ℕ). 4 * n) (c .before .get-u32 .ensures) in
-    let r : at + 4 ≤ length s = omega (arith, c .before .before .if1 .left, c .before .before .before .before .pre) in
-    let f : at + 4 + 4 * num s at 4 ≤ length s = omega (arith, c .if2 .left, d, r) in
-    simp (le-ltb _ _ r, le-ltb _ _ f, d)
+    let f : a .at + 4 + 4 * num (now (a .s)) (a .at) 4 ≤ length (now (a .s)) = omega (arith, c .if2 .left, size (c .before), room (c .before)) in
+    simp (le-ltb _ _ (room (c .before)), le-ltb _ _ f, size (c .before))
 
 pub level-part-spec : {M : Type 1} → statement M
 level-part-spec =

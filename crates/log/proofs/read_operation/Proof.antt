@@ -9,7 +9,7 @@ use Rattle.refusal.proofs.Inverses.{fromMeasured, measured-is}
 use Rattle.fields.specs.Fields.{num}
 use Rattle.meaning.specs.Item.{itemAt}
 use Rattle.meaning.specs.Log.{operationAt}
-use Rattle.items.proofs.ItemLaws.{item-within}
+use Rattle.meaning.proofs.ItemRead.{item-read}
 use native.Mathlib.Omega.{arith}
 use borrow.Author.Needs.{needs}
 use Rattle.log.proofs.read_operation.Statement.{statement}
@@ -28,9 +28,9 @@ put-at-requires : tie.Need-put-at-requires
 put-at-requires c κs =
     let b = c .before .before .before in
     let a = b .before .before .before .before .args in
-    let w = item-within PastTheEnd (a .config) (now (a .log)) (a .end) (a .at + 8) (c .before .n .given .0 .0) (tested b (c .before .n .given .1)) in
+    let w = item-read PastTheEnd (a .config) (now (a .log)) (a .end) (a .at + 8) (c .before .n .given .0 .0) (tested b (c .before .n .given .1)) in
     let inside = w .inside in
-    let few = w .few in
+    let few = w .short in
     (search needs, (omega arith, omega arith))
 
 returns-2 : tie.Need-returns-2

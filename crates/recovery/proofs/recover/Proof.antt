@@ -17,7 +17,8 @@ use Rattle.meaning.specs.Snapshot.{Snapshot}
 use Rattle.recovery.specs.Told.{recoveryAnswer}
 use Rattle.recovery.specs.Run.{Left, snapshotRead}
 use Rattle.recovery.proofs.Outcomes.{recovers-for, refused-recovers}
-use Rattle.recovery.proofs.FromSnapshot.{too-long, short-enough, SnapshotFound, snapshot-found, snapshot-refused, lent-same, meant-is, left-by-reading}
+use Rattle.meaning.proofs.RecoverBegins.{too-long, short-enough}
+use Rattle.recovery.proofs.FromSnapshot.{SnapshotFound, snapshot-found, snapshot-refused, lent-same, meant-is, left-by-reading}
 use Rattle.recovery.proofs.recover.Statement.{statement}
 use Rattle.recovery.proofs.recover.Tie as tie
 

@@ -14,7 +14,7 @@ use Rattle.meaning.specs.Replay.{step}
 use Rattle.meaning.proofs.FrameRead.{frame-too-little}
 use Rattle.log.specs.declared.Frame.{Frame as LogFrame}
 use Rattle.log.specs.declared.ReadFrame.the-variants as Reads
-use Rattle.replay.specs.Stands.{Stands}
+use Rattle.replay.specs.Stands.{TableStands}
 use Rattle.recovery.specs.Run.{runFrom, skippedOnly, stateOf, Reaches}
 use Rattle.recovery.specs.declared.Reached.{Reached}
 use Rattle.recovery.specs.declared.Replayed.the-variants as Replays
@@ -70,7 +70,7 @@ ends : (c : tie.At-loop Inv-loop μ-loop)
     → let a = c .before .before .before .before .args in
     let l = c .loop in
     frameAt (a .config) (now (a .log)) (l .previous) (l .reached .keep) ≡ tooLittle
-    → (rows : List Row) → Stands (a .config .dimensions) (now (a .words)) (now (a .entries)) (a .table) rows
+    → (rows : List Row) → TableStands (a .config .dimensions) (now (a .words)) (now (a .entries)) (a .table) rows
     → Reaches (a .config .dimensions) (runFrom (a .config) (now (a .log)) (boundsFor (a .lent)) (a .snapshot) (a .place .previous) (a .place .at) (skippedOnly (a .snapshot) rows (a .place .skipped)))
     (Replays.Reached (l .reached)) (l .words) (l .entries)
 ends c e rows s =
@@ -94,7 +94,7 @@ went : (c : tie.After-step Inv-loop μ-loop) {next : Reached} → c .step .resul
     let l = c .before .before .before .before .before .before .before .before .before .loop in
     let frame = c .before .before .before .before .frame .given .0 .0 in
     let d = a .config .dimensions in
-    (rows : List Row) → Stands d (l .words) (l .entries) (l .reached .table) rows
+    (rows : List Row) → TableStands d (l .words) (l .entries) (l .reached .table) rows
     → Stepped d (c .step .last .1 .1 .1 .1 .1 .0) (c .step .last .1 .1 .1 .1 .1 .1 .0)
     (step (rowKind d) (boundsFor (a .lent)) (a .snapshot) (read (c .before .before .before .before .before .before) (c .before .before .before .before .frame .given .1) .meant) (stateOf (l .reached) rows)) (frame .next) next
 went c {next} e rows s =

@@ -10,7 +10,7 @@ use Rattle.rows.specs.Lent.{rowsLent}
 use Rattle.rows.specs.declared.Row.{Row}
 use Rattle.meaning.specs.Recovery.{boundsFor, ended}
 use Rattle.meaning.specs.Replay.{State, Outcome}
-use Rattle.replay.specs.Stands.{Stands}
+use Rattle.replay.specs.Stands.{TableStands}
 use Rattle.recovery.specs.Run.{runFrom, skippedOnly, stateOf, Reaches, Left, SomeLeft, snapshotRead, endsIn}
 use Rattle.recovery.specs.declared.Reached.{Reached}
 use Rattle.recovery.proofs.Beginning.{room-words, room-entries, few-records, left-once, first-stands}
@@ -45,7 +45,7 @@ abbrev start : tie.After-begin → tie.Start
 start c = c .before .before .before .before .before .before .before .before .before
 
 begun : (c : tie.After-begin) (records : List Row) → LeftAt (start c) records
-    → Stands (start c .args .info .config .dimensions) (c .begin .last .0) (c .begin .last .1 .0) (record { tree = c .begin .result; size = start c .args .info .size }) records
+    → TableStands (start c .args .info .config .dimensions) (c .begin .last .0) (c .begin .last .1 .0) (record { tree = c .begin .result; size = start c .args .info .size }) records
 begun c records l =
     first-stands (start c .args .info) (words (start c)) (entries (start c)) records l
     (c .begin .result) (c .begin .last .0) (c .begin .last .1 .0) (c .begin .ensures .0) (c .begin .ensures .1 .0) (c .begin .ensures .1 .1)

@@ -8,17 +8,16 @@ use Rattle.refusal.specs.Refusal.{answer}
 use Rattle.refusal.proofs.Results.{answer-injective}
 use Rattle.layout.specs.declared.Shape.the-variants.{Batch}
 use Rattle.rows.specs.declared.Row.{Row}
-use Rattle.fields.specs.Fields.{num}
 use Rattle.fields.proofs.Numbers.{num-one}
-use Rattle.meaning.specs.Log.{ReadOperation, ReadOperations, operationAt, operationsAt}
+use Rattle.meaning.specs.Log.{ReadOperations, operationAt, operationsAt}
 use Rattle.meaning.specs.Records.{rowKind}
 use Rattle.meaning.specs.Recovery.{boundsFor}
 use Rattle.meaning.specs.Replay.{Operation, applyOne, applyAll}
 use Rattle.config.specs.Limits.{maxLogBytes}
 use Rattle.log.specs.Told.{operationRead, operationTold}
-use Rattle.replay.specs.Stands.{Stands, Kept, Accepted, nextIn, Follows}
+use Rattle.replay.specs.Stands.{TableStands, Applicable, nextIn, AppliedAs}
 use Rattle.replay.specs.declared.Applied.{Applied}
-use Rattle.replay.proofs.TableLaws.{follows-refused, follows-went}
+use Rattle.replay.proofs.TableLaws.{applied-refused, applied-went}
 use Rattle.replay.proofs.OperationFacts.{next-read}
 use Rattle.replay.proofs.BatchLaws.{operation-accepted, First, first-of, On, Turning, on-went, on-stops, none-left, apply-none, kept-went}
 use native.Mathlib.Omega.{arith}
@@ -59,7 +58,7 @@ told c = c .stored-operation .ensures ∙ ap operationTold (stored (c .before))
 -- what is left before it was applied, as rows that stand
 before : (c : Turn) (x : ReadOperations) (rows : List Row) → let a = start c .args in let l = c .before .before .loop in
     operationsAt (a .n) (a .config) (now (a .log)) (a .end) (a .at) ≡ answer x
-    → Stands (a .config .dimensions) (now (a .words)) (now (a .entries)) (a .table) rows
+    → TableStands (a .config .dimensions) (now (a .words)) (now (a .entries)) (a .table) rows
     → On (a .config .dimensions) (a .lent) Batch (l .words) (l .entries) (l .kept) (first c .this .operation ∷ first c .rest .operations) (x .operations) rows
 before c x rows e s =
     let a = start c .args in
@@ -69,13 +68,13 @@ before c x rows e s =
 -- what the operation left
 left : (c : tie.After-apply-operation Inv-loop μ-loop) {y : Applied} → c .apply-operation .result ≡ y → (rows : List Row)
     → let t = c .before .before .before .before in let a = start t .args in let l = t .before .before .loop in
-    Stands (a .config .dimensions) (l .words) (l .entries) (l .kept) rows
-    → Follows (a .config .dimensions) (applyOne (rowKind (a .config .dimensions)) (boundsFor (a .lent)) Batch (first t .this .operation) rows) y (c .apply-operation .last .1 .1 .1 .0) (c .apply-operation .last .1 .1 .1 .1 .0)
+    TableStands (a .config .dimensions) (l .words) (l .entries) (l .kept) rows
+    → AppliedAs (a .config .dimensions) (applyOne (rowKind (a .config .dimensions)) (boundsFor (a .lent)) Batch (first t .this .operation) rows) y (c .apply-operation .last .1 .1 .1 .0) (c .apply-operation .last .1 .1 .1 .1 .0)
 left c e rows s =
     let t = c .before .before .before .before in
     let a = start t .args in
     let p = c .apply-operation in
-    subst (λ (y : Applied). Follows (a .config .dimensions) (applyOne (rowKind (a .config .dimensions)) (boundsFor (a .lent)) Batch (first t .this .operation) rows) y (p .last .1 .1 .1 .0) (p .last .1 .1 .1 .1 .0))
+    subst (λ (y : Applied). AppliedAs (a .config .dimensions) (applyOne (rowKind (a .config .dimensions)) (boundsFor (a .lent)) Batch (first t .this .operation) rows) y (p .last .1 .1 .1 .0) (p .last .1 .1 .1 .1 .0))
     e (p .ensures (first t .this) rows (told (c .before .before .before)) s)
 
 loop-holds : tie.Need-loop-holds Inv-loop μ-loop
@@ -123,7 +122,7 @@ apply-operation-requires c κs =
         (
           omega arith,
           (
-            subst Accepted (sym (told o)) (operation-accepted (a .config) (now (a .log)) (a .end) _ _ (first t .this) few (first t .is)),
+            subst Applicable (sym (told o)) (operation-accepted (a .config) (now (a .log)) (a .end) _ _ (first t .this) few (first t .is)),
             l .inv .kept,
           ),
         ),
@@ -147,7 +146,7 @@ returns c =
     let a = start t .args in
     λ x rows e s.
     let b = before t x rows e s in
-    follows-refused (a .config .dimensions) _ _ _ _
+    applied-refused (a .config .dimensions) _ _ _ _
     (on-stops (a .config .dimensions) (a .lent) _ _ _ (first t .this .operation) (first t .rest .operations) (x .operations) rows _ _ (c .before .why .given .0 .0) b (left o (c .before .why .given .1) (b .rows) (b .stands)))
 
 loop-again : tie.Need-loop-again Inv-loop μ-loop
@@ -183,7 +182,7 @@ returns-2 c =
     λ x rows e s.
     let b = l .inv .on x rows e s in
     let none = none-left (a .config) (now (a .log)) (a .end) (l .left) (l .next) (l .inv .rest) (omega arith) (l .inv .rest-is) in
-    follows-went (a .config .dimensions) _ (b .rows) _ _ _
+    applied-went (a .config .dimensions) _ (b .rows) _ _ _
     (sym (b .same) ∙ ap (λ (os : List (Operation Row)). applyAll (rowKind (a .config .dimensions)) (boundsFor (a .lent)) Batch os (b .rows)) none ∙ apply-none (a .config .dimensions) (a .lent) Batch (b .rows)) (b .stands)
 
 pub apply-batch-spec : {M : Type 1} → statement M

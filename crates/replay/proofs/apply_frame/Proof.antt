@@ -1,9 +1,9 @@
 -- `apply_frame` follows `applyAll` over the frame's operations, by its shape.
 use Prim.Native.Nat.{ℕ, _+_, _-_, _≤_}
 use mathlib.Core.Path.{_≡_, sym, ap, subst, _∙_}
-use mathlib.Core.List.{List, [], _∷_}
+use mathlib.Core.List.{List}
 use denote.Ref.{now}
-use lib.ListN.{getD, length}
+use lib.ListN.{getD}
 use Rattle.refusal.specs.Refusal.{answer}
 use Rattle.config.specs.Limits.{maxLogBytes}
 use Rattle.layout.specs.declared.Shape.{Shape}
@@ -14,10 +14,10 @@ use Rattle.fields.proofs.Numbers.{num-one}
 use Rattle.meaning.specs.Log.{ReadOperations, operationsAt, operationsOf}
 use Rattle.meaning.specs.Records.{rowKind}
 use Rattle.meaning.specs.Recovery.{boundsFor}
-use Rattle.meaning.specs.Replay.{Frame, Operation, applyOne, applyAll}
+use Rattle.meaning.specs.Replay.{Frame, Operation, applyAll}
 use Rattle.log.specs.Stored.{IsFrame}
 use Rattle.log.specs.Told.{operationRead, operationTold}
-use Rattle.replay.specs.Stands.{Accepted, Follows}
+use Rattle.replay.specs.Stands.{Applicable, AppliedAs}
 use Rattle.replay.proofs.BatchLaws.{operation-accepted}
 use Rattle.replay.proofs.FrameFacts.{Lies, lies, Alone, single-stored, batch-stored, apply-alone}
 use native.Mathlib.Omega.{arith}
@@ -118,7 +118,7 @@ apply-operation-requires c κs =
         (
           p .1 .1 .1 .0,
           (
-            subst Accepted (sym (told o (f .meant) (f .is))) (operation-accepted (a .config) (now (a .log)) (a .frame .next - 4) _ _ (x .this) few (x .is)),
+            subst Applicable (sym (told o (f .meant) (f .is))) (operation-accepted (a .config) (now (a .log)) (a .frame .next - 4) _ _ (x .this) few (x .is)),
             p .1 .1 .1 .1 .1,
           ),
         ),
@@ -152,9 +152,9 @@ returns c =
     λ f rows i s.
     let x = alone e f i in
     let shape : f .shape ≡ Single = sym (lies _ _ _ _ i .shape-is) ∙ e .enum-told .given .1 in
-    subst (λ (y : Shape). Follows d (applyAll (rowKind d) (boundsFor (a .lent)) y (f .operations) rows) (p .result) (p .last .1 .1 .1 .0) (p .last .1 .1 .1 .1 .0)) (sym shape)
-    (subst (λ (os : List (Operation Row)). Follows d (applyAll (rowKind d) (boundsFor (a .lent)) Single os rows) (p .result) (p .last .1 .1 .1 .0) (p .last .1 .1 .1 .1 .0)) (sym (x .alone))
-    (subst (λ y. Follows d y (p .result) (p .last .1 .1 .1 .0) (p .last .1 .1 .1 .1 .0)) (sym (apply-alone d (a .lent) Single (x .this .operation) rows))
+    subst (λ (y : Shape). AppliedAs d (applyAll (rowKind d) (boundsFor (a .lent)) y (f .operations) rows) (p .result) (p .last .1 .1 .1 .0) (p .last .1 .1 .1 .1 .0)) (sym shape)
+    (subst (λ (os : List (Operation Row)). AppliedAs d (applyAll (rowKind d) (boundsFor (a .lent)) Single os rows) (p .result) (p .last .1 .1 .1 .0) (p .last .1 .1 .1 .1 .0)) (sym (x .alone))
+    (subst (λ y. AppliedAs d y (p .result) (p .last .1 .1 .1 .0) (p .last .1 .1 .1 .1 .0)) (sym (apply-alone d (a .lent) Single (x .this .operation) rows))
     (p .ensures (x .this) rows (told o f i) s)))
 
 returns-2 : tie.Need-returns-2
@@ -165,7 +165,7 @@ returns-2 c =
     let d = a .config .dimensions in
     λ f rows i s.
     let shape : f .shape ≡ Batch = sym (lies _ _ _ _ i .shape-is) ∙ e .enum-told2 .given .1 in
-    subst (λ (y : Shape). Follows d (applyAll (rowKind d) (boundsFor (a .lent)) y (f .operations) rows) (p .result) (p .last .1 .1 .1 .1 .1 .1 .0) (p .last .1 .1 .1 .1 .1 .1 .1 .0)) (sym shape)
+    subst (λ (y : Shape). AppliedAs d (applyAll (rowKind d) (boundsFor (a .lent)) y (f .operations) rows) (p .result) (p .last .1 .1 .1 .1 .1 .1 .0) (p .last .1 .1 .1 .1 .1 .1 .1 .0)) (sym shape)
     (p .ensures (read (start2 e) f) rows (batch e f i) s)
 
 pub apply-frame-spec : {M : Type 1} → statement M

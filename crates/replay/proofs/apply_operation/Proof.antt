@@ -1,25 +1,21 @@
 -- `apply_operation` follows `applyOne`, by its case.
-use Prim.Native.Nat.{ℕ}
-use mathlib.Core.Path.{_≡_, sym, ap, subst, _∙_}
-use mathlib.Core.List.{List}
+use mathlib.Core.Path.{sym, subst, _∙_}
 use denote.Ref.{now}
-use Rattle.refusal.specs.Refusal.{Result}
 use Rattle.rows.specs.Rows.{RowFits}
 use Rattle.rows.specs.declared.Row.{Row}
 use Rattle.meaning.specs.Records.{rowKind}
 use Rattle.meaning.specs.Recovery.{boundsFor}
 use Rattle.meaning.specs.Replay.{Operation, applyOne}
-use Rattle.tree_meaning.proofs.RowFacts.{Spares}
-use Rattle.replay.specs.Stands.{Accepted, Follows}
+use Rattle.tree_meaning.specs.Spares.{Spares}
+use Rattle.replay.specs.Stands.{Applicable, AppliedAs}
 use Rattle.replay.proofs.OperationFacts.{put-read, remove-read, not-refused-read}
-use native.Mathlib.Omega.{arith}
 use borrow.Author.Needs.{needs}
 use Rattle.replay.proofs.apply_operation.Statement.{statement}
 use Rattle.replay.proofs.apply_operation.Tie as tie
 
 -- the row of a put may be stored
 row-stores : (c : tie.After-operation) → let r = c .operation .given .0 .0 in RowFits r × Spares r
-row-stores c = subst Accepted (c .operation .given .1) (c .before .before .before .before .pre .1 .1 .1 .0)
+row-stores c = subst Applicable (c .operation .given .1) (c .before .before .before .before .pre .1 .1 .1 .0)
 
 put-row-requires : tie.Need-put-row-requires
 put-row-requires c κs =
@@ -33,7 +29,7 @@ returns c =
     let a = o .before .before .before .before .args in
     let p = c .before .before .before .before .put-row in
     λ x rows e s.
-    subst (λ (y : Operation Row). Follows (a .d) (applyOne (rowKind (a .d)) (boundsFor (a .lent)) (a .shape) y rows) (p .result) (p .last .1 .1 .0) (p .last .1 .1 .1 .0))
+    subst (λ (y : Operation Row). AppliedAs (a .d) (applyOne (rowKind (a .d)) (boundsFor (a .lent)) (a .shape) y rows) (p .result) (p .last .1 .1 .0) (p .last .1 .1 .1 .0))
     (sym (put-read x _ _ (sym (o .operation .given .1) ∙ e))) (p .ensures rows s)
 
 returns-2 : tie.Need-returns-2
@@ -42,7 +38,7 @@ returns-2 c =
     let a = o .before .before .before .before .args in
     let p = c .before .before .remove-row in
     λ x rows e s.
-    subst (λ (y : Operation Row). Follows (a .d) (applyOne (rowKind (a .d)) (boundsFor (a .lent)) (a .shape) y rows) (p .result) (p .last .1 .1 .0) (now (a .entries)))
+    subst (λ (y : Operation Row). AppliedAs (a .d) (applyOne (rowKind (a .d)) (boundsFor (a .lent)) (a .shape) y rows) (p .result) (p .last .1 .1 .0) (now (a .entries)))
     (sym (remove-read x _ _ (sym (o .operation2 .given .1) ∙ e))) (p .ensures rows s)
 
 returns-3 : tie.Need-returns-3

@@ -8,8 +8,8 @@ use Rattle.layout.specs.Layout.{recordLength, snapshotLength}
 use Rattle.meaning.specs.Replay.{mark}
 use Rattle.meaning.specs.Records.{rowKind}
 use Rattle.tree.specs.Grown.{Added, Room}
-use Rattle.replay.specs.Stands.{Stands}
-use Rattle.replay.proofs.TableLaws.{follows-refused, follows-went, put-many, put-large, put-unlent, put-goes, put-stands}
+use Rattle.replay.specs.Stands.{TableStands}
+use Rattle.replay.proofs.TableLaws.{applied-refused, applied-went, put-many, put-large, put-unlent, put-goes, put-stands}
 use native.Mathlib.Omega.{arith}
 use borrow.Author.Needs.{needs}
 use Rattle.replay.proofs.put_row.Statement.{statement}
@@ -44,7 +44,7 @@ returns c =
     let o = k .take-out in
     λ rows s.
     let e = o .ensures rows s in
-    follows-refused (a .d) _ _ _ _ (put-many (a .d) (a .lent) (a .row) _ _ (a .table) (o .result) rows e (c .if1 .taken))
+    applied-refused (a .d) _ _ _ _ (put-many (a .d) (a .lent) (a .row) _ _ (a .table) (o .result) rows e (c .if1 .taken))
 
 add-if2-2 : tie.Need-add-if2-2
 add-if2-2 c = let b = bounded (c .before .before) in omega arith
@@ -57,7 +57,7 @@ returns-2 c =
     λ rows s.
     let e = o .ensures rows s in
     let size = c .before .before .before .record-length .ensures in
-    follows-refused (a .d) _ _ _ _ (put-large (a .d) (a .lent) (a .row) _ _ (a .table) (o .result) rows e (c .before .if1 .left) (omega arith))
+    applied-refused (a .d) _ _ _ _ (put-large (a .d) (a .lent) (a .row) _ _ (a .table) (o .result) rows e (c .before .if1 .left) (omega arith))
 
 returns-3 : tie.Need-returns-3
 returns-3 c =
@@ -67,7 +67,7 @@ returns-3 c =
     λ rows s.
     let e = o .ensures rows s in
     let size = c .before .before .before .before .record-length .ensures in
-    follows-refused (a .d) _ _ _ _ (put-unlent (a .d) (a .lent) (a .row) _ _ (a .table) (o .result) rows e (c .before .before .if1 .left) (omega arith) (c .if3 .taken))
+    applied-refused (a .d) _ _ _ _ (put-unlent (a .d) (a .lent) (a .row) _ _ (a .table) (o .result) rows e (c .before .before .if1 .left) (omega arith) (c .if3 .taken))
 
 put-requires : tie.Need-put-requires
 put-requires c κs =
@@ -94,9 +94,9 @@ returns-4 c =
     let fits : snapshotLength (o .result .size + recordLength (a .d) (a .row .«caption_length»)) ≤ maxSnapshotBytes = omega arith in
     let added = subst (λ (x : ℕ). Added (a .table .tree) (o .last .1 .0) (now (a .entries)) (p .result) (p .last .0) (p .last .1 .0) (a .row .id .0) x) w (p .ensures) in
     let stands = put-stands (a .d) (a .lent) (a .row) _ _ (a .table) (o .result) rows e few fits (p .result) (p .last .0) (p .last .1 .0) (start .pre .1 .1 .1 .0) (start .pre .1 .1 .1 .1 .0) (r .words-room) added in
-    follows-went (a .d) _ (mark (rowKind (a .d)) (a .row .id .0) rows ++ (a .row ∷ [])) _ _ _
+    applied-went (a .d) _ (mark (rowKind (a .d)) (a .row .id .0) rows ++ (a .row ∷ [])) _ _ _
     (put-goes (a .d) (a .lent) (a .row) _ _ (a .table) (o .result) rows e few fits lent)
-    (subst (λ (x : ℕ). Stands (a .d) (p .last .0) (p .last .1 .0) (record { tree = p .result; size = o .result .size + x }) (mark (rowKind (a .d)) (a .row .id .0) rows ++ (a .row ∷ []))) (sym n) stands)
+    (subst (λ (x : ℕ). TableStands (a .d) (p .last .0) (p .last .1 .0) (record { tree = p .result; size = o .result .size + x }) (mark (rowKind (a .d)) (a .row .id .0) rows ++ (a .row ∷ []))) (sym n) stands)
 
 pub put-row-spec : {M : Type 1} → statement M
 put-row-spec =

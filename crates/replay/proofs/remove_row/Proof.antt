@@ -3,7 +3,7 @@ use mathlib.Core.Path.{ap, _∙_}
 use Rattle.layout.specs.declared.Shape.{Shape}
 use Rattle.meaning.specs.Replay.{mark, absent}
 use Rattle.meaning.specs.Records.{rowKind}
-use Rattle.replay.proofs.TableLaws.{follows-refused, follows-went, removed, not-there, unmarked}
+use Rattle.replay.proofs.TableLaws.{applied-refused, applied-went, removed, not-there, unmarked}
 use native.Mathlib.Omega.{arith}
 use borrow.Author.Needs.{needs}
 use Rattle.replay.proofs.remove_row.Statement.{statement}
@@ -16,7 +16,7 @@ returns c =
     let o = k .take-out in
     λ rows s.
     let e = o .ensures rows s in
-    follows-went (a .d) _ (mark (rowKind (a .d)) (a .id .0) rows) _ _ _ (removed (a .d) (a .id .0) _ _ (a .table) (o .result) rows e (c .if1 .taken) (a .shape)) (e .stands)
+    applied-went (a .d) _ (mark (rowKind (a .d)) (a .id .0) rows) _ _ _ (removed (a .d) (a .id .0) _ _ (a .table) (o .result) rows e (c .if1 .taken) (a .shape)) (e .stands)
 
 returns-2 : tie.Need-returns-2
 returns-2 c =
@@ -25,7 +25,7 @@ returns-2 c =
     let o = k .take-out in
     λ rows s.
     let e = o .ensures rows s in
-    follows-refused (a .d) _ _ _ _ (not-there (a .d) (a .id .0) _ _ (a .table) (o .result) rows e (omega arith) (a .shape) ∙ ap (λ (x : Shape). absent x rows) (c .enum-told .given .1))
+    applied-refused (a .d) _ _ _ _ (not-there (a .d) (a .id .0) _ _ (a .table) (o .result) rows e (omega arith) (a .shape) ∙ ap (λ (x : Shape). absent x rows) (c .enum-told .given .1))
 
 returns-3 : tie.Need-returns-3
 returns-3 c =
@@ -34,7 +34,7 @@ returns-3 c =
     let o = k .take-out in
     λ rows s.
     let e = o .ensures rows s in
-    follows-went (a .d) _ rows _ _ _ (not-there (a .d) (a .id .0) _ _ (a .table) (o .result) rows e (omega arith) (a .shape) ∙ ap (λ (x : Shape). absent x rows) (c .enum-told2 .given .1)) (unmarked (a .d) (a .id .0) _ _ (a .table) (o .result) rows e (omega arith))
+    applied-went (a .d) _ rows _ _ _ (not-there (a .d) (a .id .0) _ _ (a .table) (o .result) rows e (omega arith) (a .shape) ∙ ap (λ (x : Shape). absent x rows) (c .enum-told2 .given .1)) (unmarked (a .d) (a .id .0) _ _ (a .table) (o .result) rows e (omega arith))
 
 pub remove-row-spec : {M : Type 1} → statement M
 remove-row-spec =

@@ -1,6 +1,7 @@
 -- `take_out` finds the live row of an ID and marks it.
 use denote.Ref.{now}
-use Rattle.replay.proofs.TableLaws.{found-within, mark-sizes, taken-out}
+use Rattle.tree.proofs.FindLaws.{finds-within}
+use Rattle.replay.proofs.TableLaws.{mark-sizes, taken-out}
 use native.Mathlib.Omega.{arith}
 use borrow.Author.Needs.{needs}
 use Rattle.replay.proofs.take_out.Statement.{statement}
@@ -9,7 +10,7 @@ use Rattle.replay.proofs.take_out.Tie as tie
 mark-requires : tie.Need-mark-requires
 mark-requires c κs =
     let k = c .before .before .before .before .before .before .pre .stands .grown in
-    let w = found-within _ _ _ _ (c .before .find .ensures .0) in
+    let w = finds-within _ _ _ _ (c .before .find .ensures .0) in
     let lent = k .words-lent in
     omega arith
 

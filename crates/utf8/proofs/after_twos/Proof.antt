@@ -1,39 +1,15 @@
 -- `after_twos` passes whole characters. The invariant: from `at` to i stand whole characters. The measure is what is left.
-use Prim.Native.Nat.{_+_, _-_}
+use Prim.Native.Nat.{_-_}
 use native.Mathlib.Omega.{arith}
-use denote.Ref.{now}
 use borrow.Author.Needs.{needs}
 use lib.ListN.{length}
 use Rattle.utf8.specs.Steps.{Passes}
-use Rattle.utf8.proofs.Passing.{passes-none, passes-on, passes-char}
+use Rattle.utf8.proofs.Passing.{passes-next}
 use Rattle.utf8.proofs.after_twos.Statement.{statement}
 use Rattle.utf8.proofs.after_twos.Tie as tie
 
-abbrev Inv-loop : tie.InvT-loop
-Inv-loop s at i₀ i = Passes s at i
-
-abbrev μ-loop : tie.MeasureT-loop
-μ-loop s at i₀ i = length s - i
-
--- the character that was found
-whole : (c : tie.Else3 Inv-loop μ-loop) → Passes (now (c .before .before .before .before .before .before .before .before .before .args .s)) (c .before .before .before .before .before .before .before .loop .i) (c .before .before .before .before .before .before .before .loop .i + c .before .two .result)
-whole c = passes-char (now (c .before .before .before .before .before .before .before .before .before .args .s)) (c .before .before .before .before .before .before .before .loop .i) (c .before .two .result) (omega arith) (omega arith) (c .before .two .ensures)
-
 pub after-twos-spec : {M : Type 1} → statement M
-after-twos-spec =
-    tie.close
-    (tie.spec
-    Inv-loop
-    μ-loop
-    (λ c. passes-none (now (c .before .args .s)) (c .before .args .at) (c .before .pre))
-    (λ c. omega arith)
-    (λ c. omega arith)
-    (λ c. search needs)
-    (λ c. omega arith)
-    (λ c. search needs)
-    (λ c κs. omega arith)
-    (λ c. search needs)
-    (λ c. let p = whole c in omega arith)
-    (λ c. omega arith)
-    (λ c. passes-on (c .before .before .before .before .before .before .before .loop .inv) (whole c))
-    (λ c. search needs))
+after-twos-spec = tie.close (tie.spec (λ s at _ i. Passes s at i) (λ s _ _ i. length s - i)
+    (λ c. search needs) (λ c. omega arith) (λ c. omega arith) (λ c. search needs) (λ c. omega arith) (λ c. search needs) (λ c κs. omega arith) (λ c. search needs)
+    (λ c. let p = passes-next (c .before .before .before .before .before .before .before .loop .inv) (omega arith) (c .before .two .ensures) in omega arith)
+    (λ c. omega arith) (λ c. passes-next (c .before .before .before .before .before .before .before .loop .inv) (omega arith) (c .before .two .ensures)) (λ c. search needs))

@@ -5,7 +5,7 @@ use native.Mathlib.Omega.{arith}
 use denote.Ref.{now}
 use lib.ListN.{length}
 use Rattle.utf8.specs.Steps.{Passes}
-use Rattle.utf8.proofs.Passing.{passes-none, passes-on, passes-char, ends-at, ends-all}
+use Rattle.utf8.proofs.Passing.{passes-none, passes-on, passes-next, ends-at, ends-all}
 use Rattle.utf8.proofs.valid_front.Statement.{statement}
 use Rattle.utf8.proofs.valid_front.Tie as tie
 
@@ -25,16 +25,16 @@ returns : tie.Need-returns Inv-loop μ-loop
 returns c = ends-at (now (c .before .before .before .before .before .before .before .args .s)) (c .before .before .before .before .before .loop .at) (c .before .before .before .before .before .loop .inv) (sym (c .before .char-length .ensures) ∙ c .if2 .taken)
 
 add-after-run : tie.Need-add-after-run Inv-loop μ-loop
-add-after-run c = let p = passes-char (now (c .before .before .before .before .before .before .before .args .s)) (c .before .before .before .before .before .loop .at) (c .before .char-length .result) (omega arith) (omega arith) (c .before .char-length .ensures) in omega arith
+add-after-run c = let p = passes-next (c .before .before .before .before .before .loop .inv) (omega arith) (c .before .char-length .ensures) in omega arith
 
 after-run-requires : tie.Need-after-run-requires Inv-loop μ-loop
-after-run-requires c κs = let p = passes-char (now (c .before .before .before .before .before .before .before .args .s)) (c .before .before .before .before .before .loop .at) (c .before .char-length .result) (omega arith) (omega arith) (c .before .char-length .ensures) in omega arith
+after-run-requires c κs = let p = passes-next (c .before .before .before .before .before .loop .inv) (omega arith) (c .before .char-length .ensures) in omega arith
 
 loop-less-2 : tie.Need-loop-less-2 Inv-loop μ-loop
-loop-less-2 c = let p = passes-char (now (c .before .before .before .before .before .before .before .before .args .s)) (c .before .before .before .before .before .before .loop .at) (c .before .before .char-length .result) (omega arith) (omega arith) (c .before .before .char-length .ensures) in omega arith
+loop-less-2 c = let p = passes-next (c .before .before .before .before .before .before .loop .inv) (omega arith) (c .before .before .char-length .ensures) in omega arith
 
 loop-again-2 : tie.Need-loop-again-2 Inv-loop μ-loop
-loop-again-2 c = passes-on (c .before .before .before .before .before .before .loop .inv) (passes-on (passes-char (now (c .before .before .before .before .before .before .before .before .args .s)) (c .before .before .before .before .before .before .loop .at) (c .before .before .char-length .result) (omega arith) (omega arith) (c .before .before .char-length .ensures)) (c .after-run .ensures))
+loop-again-2 c = passes-on (passes-next (c .before .before .before .before .before .before .loop .inv) (omega arith) (c .before .before .char-length .ensures)) (c .after-run .ensures)
 
 returns-2 : tie.Need-returns-2 Inv-loop μ-loop
 returns-2 c = ends-all (now (c .before .before .before .args .s)) (c .before .loop .at) (c .before .loop .inv) (c .loop-test .left)

@@ -10,7 +10,7 @@ cut-requires : tie.Need-cut-requires
 cut-requires c κs =
     let a = c .before .before .before .before .args in
     subst (Inside (a .snapshot .now) (a .log .now)) (sym (c .part-given .ensures))
-    (given-inside (a .shown) (a .d) (a .snapshot .now) (a .log .now) (a .rows .now) (a .count) (a .node .0))
+    (given-inside (a .shown) (a .asked .2) (a .snapshot .now) (a .log .now) (a .rows .now) (a .asked .0) (a .asked .1 .0))
 
 returns : tie.Need-returns
 returns c =

@@ -9,7 +9,7 @@ use Rattle.views.proofs.part_given.Statement.{statement}
 use Rattle.views.proofs.part_given.Tie as tie
 
 abbrev asked : tie.Start → Result Part
-asked s = view (s .args .shown) (s .args .d) (s .args .rows .now) (s .args .count) (s .args .node .0) (s .args .snapshot .now) (s .args .log .now)
+asked s = view (s .args .shown) (s .args .asked .2) (s .args .rows .now) (s .args .asked .0) (s .args .asked .1 .0) (s .args .snapshot .now) (s .args .log .now)
 
 viewed : (c : tie.After-view) → asked (c .before .before .before .before) ≡ viewedBack (c .view .result)
 viewed c = viewed-back _ _ (c .view .ensures)

@@ -6,25 +6,7 @@ use borrow.Author.Needs.{needs}
 use Rattle.answers_graph.proofs.nodes.lines.Statement.{statement}
 use Rattle.answers_graph.proofs.nodes.lines.Tie as tie
 
-abbrev Inv-loop : tie.InvT-loop
-Inv-loop answer₀ cache starts count at₀ node₀ answer at node = (length answer ≡ length answer₀)
-
-abbrev μ-loop : tie.MeasureT-loop
-μ-loop answer₀ cache starts count at₀ node₀ answer at node = 4294967295 - node
-
 pub lines-spec : {M : Type 1} → statement M
-lines-spec =
-    tie.close
-    (tie.spec
-    Inv-loop
-    μ-loop
-    (λ c. search needs)
-    (λ c. search needs)
-    (λ c. search needs)
-    (λ c. search needs)
-    (λ c κs. search needs)
-    (λ c. search needs)
-    (λ c. search needs)
-    (λ c. search needs)
-    (λ c. search needs)
-    (λ c. search needs))
+lines-spec = tie.close (tie.spec (λ answer₀ _ _ _ _ _ answer _ _. length answer ≡ length answer₀) (λ _ _ _ _ _ _ _ _ node. 4294967295 - node)
+    (λ c. search needs) (λ c. search needs) (λ c. search needs) (λ c. search needs) (λ c κs. search needs) (λ c. search needs) (λ c. search needs)
+    (λ c. search needs) (λ c. search needs) (λ c. search needs))

@@ -6,25 +6,7 @@ use borrow.Author.Needs.{needs}
 use Rattle.answers_graph.proofs.nodes.lists.Statement.{statement}
 use Rattle.answers_graph.proofs.nodes.lists.Tie as tie
 
-abbrev Inv-loop : tie.InvT-loop
-Inv-loop answer₀ cache starts count levels n at₀ level₀ answer at level = (length answer ≡ length answer₀)
-
-abbrev μ-loop : tie.MeasureT-loop
-μ-loop answer₀ cache starts count levels n at₀ level₀ answer at level = levels - level
-
 pub lists-spec : {M : Type 1} → statement M
-lists-spec =
-    tie.close
-    (tie.spec
-    Inv-loop
-    μ-loop
-    (λ c. search needs)
-    (λ c. search needs)
-    (λ c κs. search needs)
-    (λ c. search needs)
-    (λ c κs. search needs)
-    (λ c. search needs)
-    (λ c. search needs)
-    (λ c. search needs)
-    (λ c. search needs)
-    (λ c. search needs))
+lists-spec = tie.close (tie.spec (λ answer₀ _ _ _ _ _ _ _ answer _ _. length answer ≡ length answer₀) (λ _ _ _ _ levels _ _ _ _ _ level. levels - level)
+    (λ c. search needs) (λ c. search needs) (λ c κs. search needs) (λ c. search needs) (λ c κs. search needs) (λ c. search needs)
+    (λ c. search needs) (λ c. search needs) (λ c. search needs) (λ c. search needs))

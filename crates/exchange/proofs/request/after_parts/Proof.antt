@@ -3,24 +3,7 @@ use borrow.Author.Needs.{needs}
 use Rattle.exchange.proofs.request.after_parts.Statement.{statement}
 use Rattle.exchange.proofs.request.after_parts.Tie as tie
 
-abbrev Inv-loop : tie.InvT-loop
-Inv-loop request from count at₀ left₀ at left = Unit {0}
-
-abbrev μ-loop : tie.MeasureT-loop
-μ-loop request from count at₀ left₀ at left = left
-
 pub after-parts-spec : {M : Type 1} → statement M
-after-parts-spec =
-    tie.close
-    (tie.spec
-    Inv-loop
-    μ-loop
-    (λ c. search needs)
-    (λ c κs. search needs)
-    (λ c. search needs)
-    (λ c. search needs)
-    (λ c. search needs)
-    (λ c. search needs)
-    (λ c. search needs)
-    (λ c. search needs)
-    (λ c. search needs))
+after-parts-spec = tie.close (tie.spec (λ _ _ _ _ _ _ _. Unit {0}) (λ _ _ _ _ _ _ left. left)
+    (λ c. search needs) (λ c κs. search needs) (λ c. search needs) (λ c. search needs) (λ c. search needs) (λ c. search needs) (λ c. search needs)
+    (λ c. search needs) (λ c. search needs))

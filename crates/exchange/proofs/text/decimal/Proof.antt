@@ -5,24 +5,7 @@ use borrow.Author.Needs.{needs}
 use Rattle.exchange.proofs.text.decimal.Statement.{statement}
 use Rattle.exchange.proofs.text.decimal.Tie as tie
 
-abbrev Inv-loop : tie.InvT-loop
-Inv-loop answer₀ n at₀ unit₀ answer at unit = (length answer ≡ length answer₀)
-
-abbrev μ-loop : tie.MeasureT-loop
-μ-loop answer₀ n at₀ unit₀ answer at unit = unit
-
 pub decimal-spec : {M : Type 1} → statement M
-decimal-spec =
-    tie.close
-    (tie.spec
-    Inv-loop
-    μ-loop
-    (λ c. search needs)
-    (λ c κs. search needs)
-    (λ c. search needs)
-    (λ c. search needs)
-    (λ c. search needs)
-    (λ c κs. search needs)
-    (λ c κs. search needs)
-    (λ c. search needs)
-    (λ c. search needs))
+decimal-spec = tie.close (tie.spec (λ answer₀ _ _ _ answer _ _. length answer ≡ length answer₀) (λ _ _ _ _ _ _ unit. unit)
+    (λ c. search needs) (λ c κs. search needs) (λ c. search needs) (λ c. search needs) (λ c. search needs) (λ c κs. search needs)
+    (λ c κs. search needs) (λ c. search needs) (λ c. search needs))
