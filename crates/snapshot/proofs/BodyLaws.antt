@@ -1,62 +1,78 @@
 -- What accepted records say, and an accepted file up to and with its CRC.
-use Prim.Native.Nat.{ℕ, zero, suc, _≤_}
+use Prim.Native.Nat.{ℕ, _≤_}
 use native.Mathlib.Omega.{arith}
-use mathlib.Core.Path.{_≡_, refl, ap, subst}
-use mathlib.Core.Bool.{not}
+use mathlib.Core.Path.{_≡_, sym, subst}
 use mathlib.Core.List.{List}
-use borrow.Author.Tests.{ltb-false}
-use lib.Dec.{ltb, eqb}
 use lib.ListN.{length}
-use Rattle.crc32.specs.Crc.{crcOf}
-use Rattle.fields.specs.Fields.{part, num}
-use Rattle.config.specs.Limits.{maxSnapshotBytes, maxRecords}
+use Rattle.config.specs.Limits.{maxDimensions, maxSnapshotBytes, maxRecords}
 use Rattle.config.specs.declared.Config.{Config}
+use Rattle.config.proofs.Laws.{bounded-of-valid}
+use Rattle.rows.specs.Rows.{RowFits}
 use Rattle.rows.specs.declared.Row.{Row}
 use Rattle.refusal.specs.Refusal.{answer}
-use Rattle.refusal.specs.declared.Refusal.the-variants.{BytesLeftOver, WrongFileCrc, TooFewRows}
-use Rattle.refusal.proofs.Results.{passed, went, answer-injective}
+use Rattle.layout.specs.Layout.{headerLength}
 use Rattle.meaning.specs.Every.{Every}
-use Rattle.meaning.specs.Snapshot.{bodyLength, readHeader, recordAt, ReadRows, recordsAt, Snapshot, readBody, readParts}
-use Rattle.meaning.proofs.RowWords.{Packs}
-use Rattle.snapshot.proofs.HeaderLaws.{header-within}
-use Rattle.snapshot.proofs.RecordLaws.{record-packs}
+use Rattle.meaning.specs.Replay.{size}
+use Rattle.meaning.specs.Records.{rowKind}
+use Rattle.meaning.specs.Snapshot.{headerConfig, headerCount, bodyLength, snapshotRow, ReadRows, recordsAt, Snapshot}
+use Rattle.meaning.proofs.EveryLaws.{every-map}
+use Rattle.meaning.proofs.SnapshotRead.{RowRead, records-facts, PartsRead}
+use Rattle.snapshot.proofs.RecordLaws.{facts-within, within-packs}
+
+-- a row whose offset is one in a snapshot
+abbrev pub InSnapshot : Row → Type 0
+InSnapshot r = r .at ≤ maxSnapshotBytes
 
 -- ---- what accepted records say
 pub record RowsRead (n : ℕ) (rows : List Row) : Type 0 where
   pub counted : length rows ≡ n
-  pub packs : Every Packs rows
+  pub packs : Every RowFits rows
+  pub offsets : Every InSnapshot rows
 
 pub rows-read-facts : (c : Config) (s : List ℕ) (end : ℕ) → end ≤ maxSnapshotBytes → (n at : ℕ) (x : ReadRows) → recordsAt n c s end at ≡ answer x → RowsRead n (x .rows)
-unfolding recordsAt
-rows-read-facts c s end h zero at x e = subst (λ (y : ReadRows). RowsRead 0 (y .rows)) (answer-injective _ x e) (record { counted = refl; packs = tt })
-rows-read-facts c s end h (suc n) at x e =
-    let s1 = passed (recordAt c s end at) _ x e in
-    let y = s1 .value in
-    let s2 = passed (recordsAt n c s end (y .next)) _ x (s1 .then) in
-    let r = rows-read-facts c s end h n (y .next) (s2 .value) (s2 .first) in
-    subst (λ (y : ReadRows). RowsRead (suc n) (y .rows)) (answer-injective _ x (s2 .then))
-    (record { counted = ap suc (r .counted); packs = (record-packs c s end at y h (s1 .first), r .packs) })
+rows-read-facts c s end h n at x e =
+    let r = records-facts n c s end at x e in
+    record {
+      counted = r .counted;
+      packs = every-map (RowRead c s end) RowFits packs (x .rows) (r .each);
+      offsets = every-map (RowRead c s end) InSnapshot inside (x .rows) (r .each);
+    }
+  where
+    packs : (r : Row) → RowRead c s end r → RowFits r
+    packs r w = subst RowFits (sym (w .is)) (within-packs c end (w .at) (snapshotRow c s (w .at) (w .caption)) h (facts-within c s end (w .at) (w .caption) (w .facts)))
 
--- what accepted parts say
-pub record PartsRead (lent : ℕ) (x : Snapshot) : Type 0 where
+    inside : (r : Row) → RowRead c s end r → InSnapshot r
+    inside r w = let i = w .facts .item .inside in subst InSnapshot (sym (w .is)) (omega arith)
+
+-- what accepted parts say: the records end where the CRC stands
+pub record PartsWithin (lent : ℕ) (x : Snapshot) : Type 0 where
+  pub few-dimensions : x .config .dimensions ≤ maxDimensions
   pub enough : length (x .rows) ≤ lent
   pub few : length (x .rows) ≤ maxRecords
-  pub packs : Every Packs (x .rows)
+  pub packs : Every RowFits (x .rows)
+  pub offsets : Every InSnapshot (x .rows)
+  pub sized : size (rowKind (x .config .dimensions)) (x .rows) ≤ maxSnapshotBytes
 
-pub parts-facts : (lent : ℕ) (s : List ℕ) (x : Snapshot) → readParts lent s ≡ answer x → PartsRead lent x
-unfolding readParts readBody
-parts-facts lent s x e =
-    let s1 = passed (readHeader s) _ x e in
-    let h = s1 .value in
-    let w = header-within s h (s1 .first) in
-    let s2 = went TooFewRows (ltb lent (h .count)) _ x (s1 .then) in
-    let s3 = passed (recordsAt (h .count) (h .config) s (bodyLength s) (h .first)) _ x (s2 .then) in
-    let found = s3 .value in
-    let s4 = went BytesLeftOver (not (eqb (found .next) (bodyLength s))) _ x (s3 .then) in
-    let s5 = went WrongFileCrc (not (eqb (crcOf (part s 0 (bodyLength s))) (num s (bodyLength s) 4))) _ x (s4 .then) in
-    let short = w .short-enough in
-    let enough = ltb-false lent (h .count) (s2 .test-false) in
-    let r = rows-read-facts (h .config) s (bodyLength s) (omega arith) (h .count) (h .first) found (s3 .first) in
+pub parts-within : (lent : ℕ) (s : List ℕ) (x : Snapshot) → PartsRead lent s x → PartsWithin lent x
+parts-within lent s x p =
+    let v = p .version in
+    let c = headerConfig v s (p .metric) in
+    let h = p .header in
+    let f = p .facts in
+    let short = h .short-enough in
+    let few = h .few in
+    let enough = f .enough in
+    let ends = f .ends in
+    let k = records-facts (headerCount v s) c s (bodyLength s) (headerLength v) (p .found) (f .records-are) in
+    let r = rows-read-facts c s (bodyLength s) (omega arith) (headerCount v s) (headerLength v) (p .found) (f .records-are) in
+    let sized = k .sized in
     let counted = r .counted in
-    let few = w .few in
-    subst (PartsRead lent) (answer-injective _ x (s5 .then)) (record { enough = omega arith; few = omega arith; packs = r .packs })
+    subst (PartsWithin lent) (p .is)
+    (record {
+      few-dimensions = bounded-of-valid c (h .valid) .d-high;
+      enough = omega arith;
+      few = omega arith;
+      packs = r .packs;
+      offsets = r .offsets;
+      sized = omega arith;
+    })

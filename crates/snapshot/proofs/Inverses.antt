@@ -47,27 +47,33 @@ pub record-is : (r : Result ReadRow) {x y : ReadRecord} → x ≡ recordTold r �
 record-is = told-is (λ x. Records.Found (x .row) (x .next)) (λ why. Records.Refused why) fromRecord (λ x. refl) (λ why. refl)
 
 -- ---- records and parts are told in brief
-pub record RecordsFound (d : ℕ) (r : Result ReadRows) (next total : ℕ) : Type 0 where
+pub record RecordsFound (d crc : ℕ) (r : Result ReadRows) (next total found : ℕ) : Type 0 where
   pub value : ReadRows
   pub is : r ≡ answer value
   pub next-is : next ≡ value .next
   pub total-is : total ≡ size (rowKind d) (value .rows)
+  pub crc-is : found ≡ crc
 
 abbrev nextOf : ReadRecords → ℕ
-nextOf (AllRecords.Found next total) = next
+nextOf (AllRecords.Found next total found) = next
 nextOf (AllRecords.Refused why) = 0
 
 abbrev sizeOf : ReadRecords → ℕ
-sizeOf (AllRecords.Found next total) = total
+sizeOf (AllRecords.Found next total found) = total
 sizeOf (AllRecords.Refused why) = 0
 
-pub records-found : (d : ℕ) (r : Result ReadRows) (next total : ℕ) → recordsTold d r ≡ AllRecords.Found next total → RecordsFound d r next total
-records-found d (answer y) next total e = record { value = y; is = refl; next-is = sym (ap nextOf e); total-is = sym (ap sizeOf e) }
-records-found d (refused why) next total e = absurd (let z : _≡_ {A = ℕ} 0 1 = cc in omega arith)
+abbrev crcIn : ReadRecords → ℕ
+crcIn (AllRecords.Found next total found) = found
+crcIn (AllRecords.Refused why) = 0
 
-pub records-refused : (d : ℕ) (r : Result ReadRows) (why : Refusal) → recordsTold d r ≡ AllRecords.Refused why → r ≡ refused why
-records-refused d (answer y) why e = absurd (let z : _≡_ {A = ℕ} 0 1 = cc in omega arith)
-records-refused d (refused w) why e = cc
+pub records-found : (d crc : ℕ) (r : Result ReadRows) (next total found : ℕ) → recordsTold d crc r ≡ AllRecords.Found next total found → RecordsFound d crc r next total found
+records-found d crc (answer y) next total found e =
+    record { value = y; is = refl; next-is = sym (ap nextOf e); total-is = sym (ap sizeOf e); crc-is = sym (ap crcIn e) }
+records-found d crc (refused why) next total found e = absurd (let z : _≡_ {A = ℕ} 0 1 = cc in omega arith)
+
+pub records-refused : (d crc : ℕ) (r : Result ReadRows) (why : Refusal) → recordsTold d crc r ≡ AllRecords.Refused why → r ≡ refused why
+records-refused d crc (answer y) why e = absurd (let z : _≡_ {A = ℕ} 0 1 = cc in omega arith)
+records-refused d crc (refused w) why e = cc
 
 pub record PartsFound (r : Result Snapshot) (p : Parts) : Type 0 where
   pub value : Snapshot

@@ -4,4 +4,3 @@ pub mod RecordLaws
 pub mod Reading
 pub mod BodyLaws
 pub mod Outcome
-pub mod AcceptedFile

@@ -15,6 +15,7 @@ use Rattle.meaning.specs.Replay.{size}
 use Rattle.meaning.specs.Records.{rowKind}
 use Rattle.meaning.specs.Snapshot.{ReadRow, recordAt, ReadRows, recordsAt}
 use Rattle.meaning.specs.Tables.{rowWords}
+use Rattle.meaning.proofs.Marking.{size-push}
 use Rattle.meaning.proofs.RowWords.{set-row-next}
 use Rattle.snapshot.proofs.RecordLaws.{record-within}
 
@@ -33,11 +34,6 @@ onto-none (refused why) = refl
 onto-more : (done : List Row) (y : Row) (r : Result ReadRows) → onto done (with-rest y r) ≡ onto (done ++ (y ∷ [])) r
 onto-more done y (answer x) = ap (λ (l : List Row). answer (record { rows = l; next = x .next })) (sym (append-assoc done (y ∷ []) (x .rows)))
 onto-more done y (refused why) = refl
-
-size-snoc : (d : ℕ) (rows : List Row) (r : Row) → size (rowKind d) (rows ++ (r ∷ [])) ≡ size (rowKind d) rows + recordLength d (r .«caption_length»)
-unfolding size
-size-snoc d [] r = omega arith
-size-snoc d (x ∷ xs) r = let h = size-snoc d xs r in omega arith
 
 -- ---- a turn
 module _ (c : Config) (s : List ℕ) (end : ℕ) where
@@ -105,7 +101,7 @@ module _ (c : Config) (s : List ℕ) (end first count : ℕ) (rows₀ : List ℕ
         same-length = n ∙ k .same-length;
         done = k .done ++ (r ∷ []);
         counted = length-append (k .done) (r ∷ []) ∙ ap (λ (j : ℕ). j + 1) counted;
-        total-is = ap (λ (j : ℕ). j + recordLength d (r .«caption_length»)) (k .total-is) ∙ sym (size-snoc d (k .done) r);
+        total-is = ap (λ (j : ℕ). j + recordLength d (r .«caption_length»)) (k .total-is) ∙ sym (size-push (rowKind d) (k .done) r);
         words = is ∙ ap (λ (l : List ℕ). setRow l i r) (k .words) ∙ set-row-next (k .done) r rows₀ i counted (omega arith);
         whole = k .whole ∙ ap (onto (k .done)) turn ∙ onto-more (k .done) r (recordsAt (count - (i + 1)) c s end (y .next));
       }

@@ -30,9 +30,9 @@ meantHeader h = record { config = h .config; sequence = h .sequence; count = h .
 abbrev pub recordTold : Result Meant.ReadRow → ReadRecord
 recordTold = told (λ x. Records.Found (x .row) (x .next)) (λ why. Records.Refused why)
 
--- where the records, of d coordinates each, end, and their encoded size
-abbrev pub recordsTold : ℕ → Result Meant.ReadRows → ReadRecords
-recordsTold d = told (λ x. AllRecords.Found (x .next) (size (rowKind d) (x .rows))) (λ why. AllRecords.Refused why)
+-- where the records, of d coordinates each, end, their encoded size, and a CRC
+abbrev pub recordsTold : ℕ → ℕ → Result Meant.ReadRows → ReadRecords
+recordsTold d crc = told (λ x. AllRecords.Found (x .next) (size (rowKind d) (x .rows)) crc) (λ why. AllRecords.Refused why)
 
 abbrev pub partsOf : Meant.Snapshot → Parts
 partsOf x =

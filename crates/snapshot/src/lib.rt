@@ -5,7 +5,8 @@ ghost use mathlib.Core.Path.{_≡_};
 ghost use Prim.Native.Nat.{_+_, _*_, _≤_};
 ghost use mathlib.Core.List.{_++_};
 ghost use mathlib.Core.Bool.{cond};
-ghost use lib.ListN.{length, drop};
+ghost use lib.ListN.{length, take, drop};
+ghost use Rattle.crc32.specs.Crc.{crcOf};
 ghost use Rattle.refusal.specs.Refusal.{answer};
 ghost use Rattle.config.specs.Limits.{maxDimensions, maxRecords, minSnapshotBytes, maxSnapshotBytes};
 ghost use Rattle.config.specs.Settings.{metricTold};
@@ -44,9 +45,9 @@ enum ReadRecord {
     Refused(Refusal),
 }
 
-// Where the records end, and their encoded size.
+// Where the records end, their encoded size, and the CRC of all bytes but its own.
 enum ReadRecords {
-    Found(usize, usize),
+    Found(usize, usize, u32),
     Refused(Refusal),
 }
 
@@ -240,6 +241,7 @@ fn read_record(config: Config, s: &[u8], end: usize, at: usize) -> ReadRecord
 }
 
 // A row for each record, at the front of the table. Where a record is refused, the rows before it are written.
+// The CRC is taken along, a piece before its records are read.
 fn read_records(
     config: Config,
     s: &[u8],
@@ -254,14 +256,16 @@ fn read_records(
     requires { ⌜ first ≤ end ⌝ }
     requires { ⌜ count ≤ maxRecords ⌝ }
     requires { ⌜ 2 * count ≤ length (now rows) ⌝ }
-    ensures { λ r. ⌜ r ≡ recordsTold (config .dimensions) (recordsAt count config (now (s .entry)) end first) ⌝ }
+    ensures { λ r. ⌜ r ≡ recordsTold (config .dimensions) (crcOf (take end (now (s .entry)))) (recordsAt count config (now (s .entry)) end first) ⌝ }
     ensures { λ _. ⌜ ((x : ReadRows) → recordsAt count config (now (s .entry)) end first ≡ answer x → now (rows .exit) ≡ rowWords (x .rows) ++ drop (2 * count) (now (rows .entry))) ⌝ }
 {
     let d = config.dimensions;
+    let mut sum = pieces::none();
     let mut at = first;
     let mut size: usize = 0;
     let mut i: usize = 0;
     while i < count {
+        sum = pieces::ahead(sum, s, end, at);
         match read_record(config, s, end, at) {
             ReadRecord::Found(row, next) => {
                 rows::set_row(rows, Node(i as u32), row);
@@ -274,7 +278,7 @@ fn read_records(
         }
         i += 1;
     }
-    ReadRecords::Found(at, size)
+    ReadRecords::Found(at, size, pieces::finish(sum, s, end))
 }
 
 // What follows the header: the records, then 16 and 17.
@@ -293,12 +297,12 @@ fn read_body(s: &[u8], header: Header, rows: &mut [u64]) -> ReadParts
     let sequence = header.sequence;
     let end = s.len() - layout::CRC_LENGTH;
     match read_records(config, s, end, first, count, rows) {
-        ReadRecords::Found(next, size) => {
+        ReadRecords::Found(next, size, found) => {
             if next != end {
                 return ReadParts::Refused(Refusal::BytesLeftOver);
             }
             let crc = fields::get_u32(s, end);
-            if crc32::crc32(&s[..end]) != crc {
+            if found != crc {
                 return ReadParts::Refused(Refusal::WrongFileCrc);
             }
             ReadParts::Read(Parts {

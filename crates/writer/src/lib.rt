@@ -14,7 +14,6 @@ ghost use Rattle.config.specs.Settings.{Bounded};
 ghost use Rattle.layout.specs.Layout.{headerLength, recordLength, snapshotLength};
 ghost use Rattle.layout.specs.declared.Version.the-variants.{Two};
 ghost use Rattle.layout.specs.declared.Extent.the-variants.{Full, Compacted};
-ghost use Rattle.fields.specs.Fields.{bytes};
 ghost use Rattle.fields.specs.Placed.{placed};
 ghost use Rattle.rows.specs.Lent.{rowsLentPlain};
 ghost use Rattle.rows.specs.Rows.{RowFits};
@@ -226,6 +225,7 @@ fn write_row<'a>(
     write_record(d, row, snapshot, log, out, at)
 }
 
+// The CRC of the header and the records is taken along, a piece when it is written.
 fn write_records<'a>(
     extent: Extent,
     config: Config,
@@ -234,27 +234,22 @@ fn write_records<'a>(
     snapshot: &'a [u8],
     log: &'a [u8],
     out: &mut [u8],
-)
+) -> u32
     requires { ⌜ Tested config (now rows) count (now snapshot) (now log) ⌝ }
     requires { ⌜ headerLength Two + length (rowsBytes extent (config .dimensions) (now snapshot) (now log) (rowsIn count (now rows))) ≤ length (now out) ⌝ }
     ensures { λ _. ⌜ now (out .exit) ≡ placed (headerLength Two) (rowsBytes extent (config .dimensions) (now (snapshot .entry)) (now (log .entry)) (rowsIn count (now (rows .entry)))) (now (out .entry)) ⌝ }
+    ensures { λ r. ⌜ r ≡ crcOf (take (headerLength Two + length (rowsBytes extent (config .dimensions) (now (snapshot .entry)) (now (log .entry)) (rowsIn count (now (rows .entry))))) (now (out .exit))) ⌝ }
 {
+    let mut sum = pieces::none();
     let mut at: usize = layout::HEADER_LENGTH;
     let mut i: usize = 0;
     while i < count {
         let row = rows::row_at(rows, Node(i as u32));
         at = write_row(extent, config.dimensions, row, snapshot, log, out, at);
+        sum = pieces::behind(sum, out, at);
         i += 1;
     }
-}
-
-// The CRC of the first n bytes, behind them.
-fn write_crc(out: &mut [u8], n: usize)
-    requires { ⌜ n + 4 ≤ length (now out) ⌝ }
-    ensures { λ _. ⌜ now (out .exit) ≡ placed n (bytes 4 (crcOf (take n (now (out .entry))))) (now (out .entry)) ⌝ }
-{
-    let crc = crc32::crc32(&out[..n]);
-    fields::put_u32(out, n, crc);
+    pieces::finish(sum, out, at)
 }
 
 // The output has room.
@@ -275,8 +270,8 @@ fn write_file<'a>(
     ensures { λ _. ⌜ now (out .exit) ≡ placed 0 (fileOf config sequence (map (seen (config .dimensions) (now (snapshot .entry)) (now (log .entry))) (written extent (rowsIn count (now (rows .entry)))))) (now (out .entry)) ⌝ }
 {
     write_header(config, sequence, totals.records, out);
-    write_records(extent, config, rows, count, snapshot, log, out);
-    write_crc(out, layout::HEADER_LENGTH + totals.bytes);
+    let crc = write_records(extent, config, rows, count, snapshot, log, out);
+    fields::put_u32(out, layout::HEADER_LENGTH + totals.bytes, crc);
 }
 
 // 34, then 32.

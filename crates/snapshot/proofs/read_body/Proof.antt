@@ -6,9 +6,9 @@ use mathlib.Core.Path.{_≡_, sym, ap, _∙_}
 use borrow.Author.Tests.{eq-eqb, ne-eqb}
 use borrow.Author.Needs.{needs}
 use denote.Ref.{now}
-use lib.Seq.{length-take-le}
 use lib.ListN.{length, drop}
-use Rattle.fields.specs.Fields.{num}
+use Rattle.crc32.specs.Crc.{crcOf}
+use Rattle.fields.specs.Fields.{part, num}
 use Rattle.rows.specs.declared.Row.{Row}
 use Rattle.refusal.specs.Refusal.{Result, answer, refused}
 use Rattle.refusal.specs.declared.Refusal.{Refusal}
@@ -38,8 +38,13 @@ records c = recordsAt (header c .count) (header c .config) (file c) (bodyLength 
 abbrev when-found : tie.After-next → tie.After-read-records
 when-found c = c .before .before .before .before
 
-found : (c : tie.After-next) → RecordsFound (header (when-found c) .config .dimensions) (records (when-found c)) (c .next .given .0 .0) (c .next .given .0 .1 .0)
-found c = records-found _ _ _ _ (sym (when-found c .read-records .ensures .0) ∙ c .next .given .1)
+-- the CRC of all bytes but its own
+abbrev whole-crc : tie.After-read-records → ℕ
+whole-crc c = crcOf (part (file c) 0 (bodyLength (file c)))
+
+found : (c : tie.After-next) → let r = when-found c in
+    RecordsFound (header r .config .dimensions) (whole-crc r) (records r) (c .next .given .0 .0) (c .next .given .0 .1 .0) (c .next .given .0 .1 .1 .0)
+found c = records-found _ _ _ _ _ _ (sym (when-found c .read-records .ensures .0) ∙ c .next .given .1)
 
 ends : (c : tie.Else1) → found (c .before .before) .value .next ≡ bodyLength (file (when-found (c .before .before)))
 ends c = sym (found (c .before .before) .next-is) ∙ c .if1 .left
@@ -53,31 +58,28 @@ returns c =
     let e : readBody (file r) (header r) ≡ refused BytesLeftOver = simp (found n .is, ne-eqb _ _ (λ q. c .if1 .taken (found n .next-is ∙ q))) in
     (sym (ap partsTold e), λ x k. absurd (refused-no-answer BytesLeftOver x (sym e ∙ k)))
 
-slice-aggregate-crc32 : tie.Need-slice-aggregate-crc32
-slice-aggregate-crc32 c = let s = file (when-found (c .before .before .before .before)) in sym (length-take-le (bodyLength s) s (omega arith))
-
 returns-2 : tie.Need-returns-2
 unfolding readBody
 returns-2 c =
-    let b = c .before .before .before .before in
+    let b = c .before .before in
     let n = b .before .before in
     let r = when-found n in
     let e : readBody (file r) (header r) ≡ refused WrongFileCrc =
-    simp (found n .is, eq-eqb _ _ (ends b), ne-eqb _ _ (λ q. c .if2 .taken (c .before .crc32 .ensures ∙ q ∙ sym (c .before .before .before .get-u32 .ensures)))) in
+    simp (found n .is, eq-eqb _ _ (ends b), ne-eqb _ _ (λ q. c .if2 .taken (found n .crc-is ∙ q ∙ sym (c .before .get-u32 .ensures)))) in
     (sym (ap partsTold e), λ x k. absurd (refused-no-answer WrongFileCrc x (sym e ∙ k)))
 
 returns-3 : tie.Need-returns-3
 unfolding readBody
 returns-3 c =
-    let b = c .before .before .before .before in
+    let b = c .before .before in
     let n = b .before .before in
     let r = when-found n in
     let s = file r in
     let h = header r in
     let f = found n in
-    let crc : c .before .before .before .get-u32 .result ≡ num s (bodyLength s) 4 = c .before .before .before .get-u32 .ensures in
+    let crc : c .before .get-u32 .result ≡ num s (bodyLength s) 4 = c .before .get-u32 .ensures in
     let e : readBody s h ≡ answer (record { config = h .config; crc = num s (bodyLength s) 4; sequence = h .sequence; rows = f .value .rows }) =
-    simp (f .is, eq-eqb _ _ (ends b), eq-eqb _ _ (sym (c .before .crc32 .ensures) ∙ c .if2 .left ∙ crc)) in
+    simp (f .is, eq-eqb _ _ (ends b), eq-eqb _ _ (sym (f .crc-is) ∙ c .if2 .left ∙ crc)) in
     let facts = rows-read-facts (h .config) s (bodyLength s) (omega (arith, start r .pre)) (h .count) (h .first) (f .value) (f .is) in
     let counted : start r .args .header .count ≡ length (f .value .rows) = sym (facts .counted) in
     let t = f .total-is in
@@ -96,7 +98,7 @@ returns-4 c =
     let r = w .before .before .before .before in
     let why : Refusal = w .why .given .0 .0 in
     let e : readBody (file r) (header r) ≡ refused why =
-    simp (records-refused (header r .config .dimensions) (records r) why (sym (r .read-records .ensures .0) ∙ w .why .given .1)) in
+    simp (records-refused (header r .config .dimensions) (whole-crc r) (records r) why (sym (r .read-records .ensures .0) ∙ w .why .given .1)) in
     (sym (ap partsTold e), λ x k. absurd (refused-no-answer why x (sym e ∙ k)))
 
 pub read-body-spec : {M : Type 1} → statement M
@@ -108,8 +110,6 @@ read-body-spec =
     (λ c. search needs)
     (λ c. search needs)
     returns
-    (λ c κs. search needs)
-    slice-aggregate-crc32
     (λ c κs. search needs)
     (λ c. search needs)
     returns-2

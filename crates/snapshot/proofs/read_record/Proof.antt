@@ -11,7 +11,7 @@ use Rattle.layout.specs.Layout.{recordHead}
 use Rattle.refusal.specs.declared.Measured.{Measured}
 use Rattle.refusal.specs.declared.Refusal.the-variants.{VectorPastTheEnd}
 use Rattle.refusal.proofs.Inverses.{fromMeasured, measured-is}
-use Rattle.items.proofs.ItemLaws.{ItemWithin, item-within}
+use Rattle.meaning.proofs.ItemRead.{ItemHere, item-read}
 use Rattle.meaning.specs.Item.{itemAt}
 use Rattle.meaning.specs.Snapshot.{recordAt}
 use Rattle.snapshot.proofs.read_record.Statement.{statement}
@@ -27,8 +27,8 @@ item : (c : tie.After-check-item) {y : Measured} → c .check-item .result ≡ y
 item c e = measured-is _ (c .check-item .ensures) e
 
 within : (c : tie.After-n) → let a = c .before .before .before .before .before .before .before .args in
-    ItemWithin (a .config) (a .end) (a .at + recordHead) (c .n .given .0 .0)
-within c = item-within VectorPastTheEnd _ _ _ _ _ (item (c .before .before) (c .n .given .1))
+    ItemHere (a .config) (now (a .s)) (a .end) (a .at + recordHead) (c .n .given .0 .0)
+within c = item-read VectorPastTheEnd _ _ _ _ _ (item (c .before .before) (c .n .given .1))
 
 returns : tie.Need-returns
 unfolding recordAt
@@ -49,7 +49,7 @@ returns-3 c =
     simp (le-ltb _ _ (f .before .before .if1 .left), le-ltb _ _ (flag-good f), item i (c .before .why .given .1))
 
 record-length-requires : tie.Need-record-length-requires
-record-length-requires c κs = let w = within (c .before .before .before) in let few = w .few in search needs
+record-length-requires c κs = let w = within (c .before .before .before) in let few = w .short in search needs
 
 add-t25 : tie.Need-add-t25
 add-t25 c = let w = within (c .before .before .before .before) in let e = c .record-length .ensures in omega (arith, w .inside)

@@ -21,7 +21,8 @@ use Rattle.meaning.proofs.RowWords.{rows-of-words}
 use Rattle.snapshot.specs.Told.{acceptedTold, readTold}
 use Rattle.snapshot.specs.declared.Parts.{Parts}
 use Rattle.snapshot.proofs.Inverses.{PartsFound, parts-found, parts-refused}
-use Rattle.snapshot.proofs.BodyLaws.{PartsRead, parts-facts}
+use Rattle.meaning.proofs.SnapshotRead.{parts-facts}
+use Rattle.snapshot.proofs.BodyLaws.{PartsWithin, parts-within}
 use Rattle.snapshot.proofs.Outcome.{parts-stop, active-twice, active-once, cleared}
 use Rattle.snapshot.proofs.read_snapshot.Statement.{statement}
 use Rattle.snapshot.proofs.read_snapshot.Tie as tie
@@ -61,8 +62,8 @@ found c = parts-found _ _ (sym (read c .read-parts .ensures .0) ∙ c .p .given 
 abbrev rows : tie.After-p → List Row
 rows c = found c .value .rows
 
-facts : (c : tie.After-p) → PartsRead (read c .before .before .rows-lent .result) (found c .value)
-facts c = parts-facts _ _ _ (found c .is)
+facts : (c : tie.After-p) → PartsWithin (read c .before .before .rows-lent .result) (found c .value)
+facts c = parts-within _ _ _ (parts-facts _ _ _ (found c .is))
 
 counted : (c : tie.After-p) → told c .records ≡ length (rows c)
 counted c = ap (λ (q : Parts). q .records) (found c .told)

@@ -42,11 +42,13 @@ returns c =
     let rows = rowsIn (a .count) (a .rows .now) in
     let body = headerBytes (a .config) (a .sequence) (a .totals .records) ++ rowsBytes (a .extent) (a .config .dimensions) (a .snapshot .now) (a .log .now) rows in
     let h : 0 ≤ length o = omega arith in
-    let q2 = then-part 0 o h _ (record { long = length-header (a .config) (a .sequence) (a .totals .records); same = p1 .write-header .ensures }) (records-long s) refl (p2 .write-records .ensures) in
-    let n : headerLength Two + t ≡ 0 + length body = omega (arith, q2 .long) in
-    let front : take (headerLength Two + t) (p2 .write-records .last .1 .1 .1 .1 .1 .1 .0) ≡ body = ap₂ take n (q2 .same) ∙ take-placed 0 body o h in
-    let q3 = then-field 0 o h 4 (crcOf (take (headerLength Two + t) (p2 .write-records .last .1 .1 .1 .1 .1 .1 .0))) q2 (omega arith) (p3 .write-crc .ensures) in
-    q3 .same ∙ ap (λ (l : List ℕ). placed 0 (body ++ bytes 4 (crcOf l)) o) front
+    let q2 = then-part 0 o h _ (record { long = length-header (a .config) (a .sequence) (a .totals .records); same = p1 .write-header .ensures }) (records-long s) refl (p2 .write-records .ensures .0) in
+    let records = rowsBytes (a .extent) (a .config .dimensions) (a .snapshot .now) (a .log .now) rows in
+    let n : headerLength Two + length records ≡ 0 + length body = omega (arith, q2 .long, records-long s) in
+    let front : take (headerLength Two + length records) (p2 .write-records .last .1 .1 .1 .1 .1 .1 .0) ≡ body = ap₂ take n (q2 .same) ∙ take-placed 0 body o h in
+    let crc : p2 .write-records .result ≡ crcOf body = p2 .write-records .ensures .1 ∙ ap crcOf front in
+    let q3 = then-field 0 o h 4 (p2 .write-records .result) q2 (omega arith) (p3 .put-u32 .ensures) in
+    q3 .same ∙ ap (λ (v : ℕ). placed 0 (body ++ bytes 4 v) o) crc
     ∙ ap (λ (l : List ℕ). placed 0 l o) (file-parts (a .extent) (a .config) (a .sequence) (a .snapshot .now) (a .log .now) rows (a .totals .records) (s .pre .1 .0 .records-are))
 
 pub write-file-spec : {M : Type 1} → statement M
