@@ -12,9 +12,6 @@ SHAPES = {
     13: (9, 3), 14: (5, 2), 15: (5, 2), 16: (2, 1), 17: (3, 3), 18: (3, 3), 19: (10, 1), 20: (3, 2), 21: (0, 1), 22: (0, 1), 23: (4, 0),
 }  # fmt: skip
 BAD_REQUEST = ["bad request"]
-# document 01's bounds of the listing
-LISTED_BYTES = 65536
-LISTED_ROWS = 4096
 
 
 def definition(path, *arguments):
@@ -199,12 +196,8 @@ def recover_and_write(extent):
 
 
 def listing(numbers, parts):
-    if max(map(len, parts)) > LISTED_BYTES:
-        text = definition("listing_text/Lines/refusedLine", ("File",))
-    else:
-        result = definition("meaning/Calls/recoverCall", [0] * 2 * LISTED_ROWS, [0] * LISTED_ROWS, *parts)
-        text = definition("listing_text/Listing/listingText", *parts, result)
-    return ["listing " + shown_bytes(text)]
+    files = [("found", part) for part in parts]
+    return ["listing " + shown_bytes(definition("listing_text/Files/listingOf", *files))]
 
 
 def encode(shape):

@@ -1,7 +1,12 @@
 // The listing: what snapshot.bin and wal.bin of the folder at hand hold, a line for each node, or why they are refused.
-// A file that cannot be opened or read, or that exceeds 65,536 bytes, is refused by 35, before anything else.
-// The text is made by the calls of `listing_text`; here files are read and lines written out. The room for a line is more than
-// any line takes (crate listing_theorems), so that none is left out.
+// A file that cannot be opened or read, or that exceeds its room, is refused by 35, before anything else.
+// The text is made by the calls of `listing_text`; here files are read and lines written out. The contracts of `list` and `list_store`
+// say what is lent to them: rooms and rows as document 01 bounds them, and a line that holds the longest. With that the lines, one after
+// the other, are the listing of the two files (crate listing_theorems, specs/ListingFiles).
+ghost use mathlib.Core.Path.{_≡_};
+ghost use Prim.Native.Nat.{_*_, _≤_};
+ghost use lib.ListN.{length};
+ghost use Rattle.listing_text.specs.Files.{listingFileLimit, listingRows, longestLine};
 use libc::STDOUT_FILENO;
 use listing_text::Heading;
 use listing_text::Stopped;
@@ -19,15 +24,17 @@ fn main() {
     list(&mut snapshot, &mut log, &mut rows, &mut active, &mut line);
 }
 
-fn list(
-    snapshot: &mut [u8],
-    log: &mut [u8],
-    rows: &mut [u64],
-    active: &mut [u32],
-    line: &mut [u8],
-) {
-    let a = read(b"snapshot.bin", snapshot);
+fn list(snapshot: &mut [u8], log: &mut [u8], rows: &mut [u64], active: &mut [u32], line: &mut [u8])
+    requires { ⌜ length (now snapshot) ≡ listingFileLimit ⌝ }
+    requires { ⌜ length (now log) ≡ listingFileLimit ⌝ }
+    requires { ⌜ length (now rows) ≡ 2 * listingRows ⌝ }
+    requires { ⌜ length (now active) ≡ listingRows ⌝ }
+    requires { ⌜ longestLine ≤ length (now line) ⌝ }
+{
+    // The log first: a store in use writes its snapshot and then empties its log, and an old snapshot beside an emptied log would miss
+    // changes without a sign.
     let b = read(b"wal.bin", log);
+    let a = read(b"snapshot.bin", snapshot);
     if snapshot.len() < a {
         refuse(Stopped::File, line);
         return;
@@ -64,7 +71,13 @@ fn list_store<'a>(
     rows: &mut [u64],
     active: &mut [u32],
     line: &mut [u8],
-) {
+)
+    requires { ⌜ length (now snapshot) ≤ listingFileLimit ⌝ }
+    requires { ⌜ length (now log) ≤ listingFileLimit ⌝ }
+    requires { ⌜ length (now rows) ≡ 2 * listingRows ⌝ }
+    requires { ⌜ length (now active) ≡ listingRows ⌝ }
+    requires { ⌜ longestLine ≤ length (now line) ⌝ }
+{
     match recovery::recover(snapshot, log, rows, active) {
         Recovery::Recovered(info) => list_state(info, snapshot, log, rows, line),
         Recovery::RefusedSnapshot(why) => refuse(Stopped::Snapshot(why), line),

@@ -4,3 +4,4 @@ pub mod Spelled
 pub mod LineLaws
 pub mod ViewNumbers
 pub mod Example
+pub mod FileLaws

@@ -53,9 +53,6 @@ length-line n id state =
     omega (arith, length-append (decimal n) rest, length-before (ascii " ") id (state ++ newline), length-append state newline)
 
 -- ---- parts that were put one behind the other
-pub four : (a b c d : List ℕ) → a ++ b ++ c ++ d ≡ a ++ (b ++ (c ++ d))
-four a b c d = append-assoc (a ++ b) c d ∙ append-assoc a b (c ++ d)
-
 pub five : (a b c d e : List ℕ) → a ++ b ++ c ++ d ++ e ≡ a ++ (b ++ (c ++ d ++ e))
 five a b c d e = ap (λ (l : List ℕ). l ++ e) (append-assoc (a ++ b) c d) ∙ append-assoc (a ++ b) (c ++ d) e ∙ append-assoc a b (c ++ d ++ e)
 
@@ -70,7 +67,7 @@ module _ (out line : List ℕ) where
   unfolding fitted
   fitted-short h = simp (lt-ltb (length out) (length line) h)
 
-  fitted-whole : length line ≤ length out → fitted out line ≡ answer line
+  pub fitted-whole : length line ≤ length out → fitted out line ≡ answer line
   unfolding fitted
   fitted-whole h = simp (le-ltb (length out) (length line) h)
 

@@ -23,19 +23,23 @@ pub spelled-none : (at n i : ℕ) (o : List ℕ) → i ≡ at + length (decimal 
 spelled-none at n i o e =
     record { tail = []; all = sym (append-nil (decimal n)); here = e; same = sym (placed-none i o); kept = refl }
 
-module _ (at n : ℕ) (o out : List ℕ) (i rest : ℕ) (room : at + length (decimal n) ≤ length o) (s : Spelled at n o out i rest) where
+module _ {at n : ℕ} {o out : List ℕ} {i rest : ℕ} (room : at + length (decimal n) ≤ length o) (s : Spelled at n o out i rest) where
   long : length (decimal n) ≡ length (decimal rest) + length (s .tail)
   long = ap length (s .all) ∙ length-append (decimal rest) (s .tail)
 
   fits : i + length (s .tail) ≤ length o
   fits = omega (arith, s .here, long)
 
-  -- the first of what stands is behind `at` and inside
+  -- the first of what stands is behind `at`
   pub behind : at < i
   behind = omega (arith, s .here, length-some rest)
 
-  pub inside : i ≤ length o
-  inside = omega (arith, fits)
+  -- the place before it is inside, and so is the first place of all
+  pub before-inside : i - 1 < length out
+  before-inside = omega (arith, behind, fits, s .kept)
+
+  pub first-inside : at < length out
+  first-inside = omega (arith, behind, fits, s .kept)
 
   pub spelled-more : 10 ≤ rest → (d : ℕ) → d ≡ digit (rest % 10) → Spelled at n o (set out (i - 1) d) (i - 1) (rest / 10)
   spelled-more h d e =

@@ -24,9 +24,10 @@ use Rattle.meaning.specs.Views.{rowFor, partFor, view}
 use Rattle.theorems.specs.Storable.{Fit, Sourced}
 use Rattle.listing_text.specs.Lines.{ascii, stateText, nodeLine}
 use Rattle.listing_text.specs.Listing.{fitted, nodeLines, nodeLineCall}
+use Rattle.listing_text.specs.Files.{longestLine}
 use Rattle.listing_text.proofs.DecimalLaws.{length-within}
 use Rattle.listing_text.proofs.LineLaws.{length-line}
-use Rattle.listing_theorems.specs.ListingCalled.{textOf, calledFrom, longestLine}
+use Rattle.listing_theorems.specs.ListingCalled.{textOf, calledFrom}
 
 -- a state's text is ` live ` and a caption at most
 length-state-text : (deleted : Bool) (caption : List ℕ) → length (stateText deleted caption) ≤ 6 + length caption

@@ -8,7 +8,7 @@ use mathlib.Core.List.{List, [], _∷_, _++_}
 use lib.Dec.{ltb}
 use borrow.Author.Tests.{ltb-false}
 use Rattle.meaning.specs.Every.{Every}
-use Rattle.theorems.proofs.Every.{every-append, every-map}
+use Rattle.meaning.proofs.EveryLaws.{every-append, every-map}
 use Rattle.listing_text.specs.Decimal.{digit, decimalBy, decimal}
 use Rattle.listing_theorems.specs.ListingTells.{Without}
 

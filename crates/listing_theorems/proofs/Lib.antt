@@ -2,3 +2,5 @@ pub mod Digits
 pub mod Told
 pub mod Called
 pub mod Proved
+pub mod Short
+pub mod Files

@@ -1,37 +1,33 @@
 -- The calls make the listing, and its text tells the store.
-use Prim.Native.Nat.{ℕ, _+_, _-_, _≤_}
+use Prim.Native.Nat.{ℕ, _≤_}
 use native.Mathlib.Omega.{arith}
 use mathlib.Core.Path.{_≡_, sym, ap, subst, _∙_}
-use mathlib.Core.List.{List, _++_, map}
-use lib.ListN.{length, length-append, length-replicate, replicate}
+use mathlib.Core.List.{List, [], _++_, map}
+use lib.ListN.{length}
 use Rattle.fields.specs.Fields.{Bytes}
 use Rattle.config.specs.Settings.{Bounded}
 use Rattle.config.specs.declared.Config.{Config}
 use Rattle.config.proofs.Laws.{bounded-of-valid}
-use Rattle.rows.specs.Lent.{rowsLent, rowsLentPlain}
+use Rattle.rows.specs.Lent.{rowsLent}
 use Rattle.rows.specs.declared.Row.{Row}
 use Rattle.meaning.specs.Every.{Every}
 use Rattle.meaning.specs.Records.{seen}
 use Rattle.meaning.specs.Recovery.{Recovered, recovered, recordCount, rowsOf, recordsOf}
 use Rattle.meaning.specs.Calls.{recoverCall, recoverTables, recoveryTold}
-use Rattle.meaning.specs.Tables.{rowWords, rowsIn, filled}
-use Rattle.meaning.proofs.RowWords.{length-rowWords}
+use Rattle.meaning.specs.Tables.{rowsIn}
 use Rattle.theorems.specs.Storable.{Sourced}
 use Rattle.theorems.proofs.Recovering.{Accepted, accepted}
 use Rattle.theorems.proofs.AtTheCut.{Standing, standing}
 use Rattle.theorems.proofs.SnapshotFit.{snapshot-fits}
 use Rattle.theorems.proofs.TableRows.{rows-of-table}
-use Rattle.theorems.proofs.Written.{recovered-packs}
+use Rattle.theorems.proofs.Written.{recovered-packs, room-there}
 use Rattle.listing_text.specs.Lines.{firstLine}
 use Rattle.listing_text.specs.Listing.{headingOf, nodeLines, listingText, nodeLineCall}
-use Rattle.listing_theorems.specs.ListingCalled.{longestLine, calledFrom, ListingCalled}
+use Rattle.listing_text.specs.Files.{longestLine}
+use Rattle.listing_theorems.specs.ListingCalled.{calledFrom, ListingCalled}
 use Rattle.listing_theorems.specs.ListingTells.{ListingTells}
 use Rattle.listing_theorems.proofs.Called.{lines-called}
 use Rattle.listing_theorems.proofs.Told.{behind-first, lines-told}
-
--- a table that was lent is as long after as before
-length-filled : (n : ℕ) (words : List ℕ) → length words ≤ n → length (filled n words) ≡ n
-length-filled n words h = length-append words (replicate (n - length words) 0) ∙ omega (arith, length-replicate {A = ℕ} (n - length words) 0)
 
 module _ (words active snapshot log : List ℕ) (r : Recovered) (bs : Bytes snapshot) (bl : Bytes log) (given : recoverCall words active snapshot log ≡ recovered r) where
   a : Accepted (rowsLent words active) snapshot log r
@@ -42,13 +38,6 @@ module _ (words active snapshot log : List ℕ) (r : Recovered) (bs : Bytes snap
 
   abbrev table : List ℕ
   table = recoverTables words active (recovered r) .rows
-
-  room-there : length (rowsOf r) ≤ rowsLentPlain table
-  room-there =
-      let e = stands .enough in
-      let w = length-rowWords (rowsOf r) in
-      let n = length-filled (length words) (rowWords (rowsOf r)) (omega arith) in
-      omega arith
 
   rows-back : rowsIn (length (rowsOf r)) table ≡ rowsOf r
   rows-back = rows-of-table (length words) (rowsOf r) (recovered-packs (rowsLent words active) snapshot log r bs bl given)
@@ -64,7 +53,7 @@ module _ (words active snapshot log : List ℕ) (r : Recovered) (bs : Bytes snap
       ≡ listingText snapshot log (recovered r)
   called outs room =
       ap (λ (l : List ℕ). firstLine (headingOf (recoveryTold log r)) ++ l)
-      (lines-called (r .config) bounded table (recordCount r) room-there snapshot log outs room (recordCount r) 0 (omega arith) sourced
+      (lines-called (r .config) bounded table (recordCount r) (room-there words active snapshot log [] r bs bl given) snapshot log outs room (recordCount r) 0 (omega arith) sourced
       ∙ ap (λ (rows : List Row). nodeLines 0 (map (seen (r .config .dimensions) snapshot log) rows)) rows-back)
 
 pub listing-called : ListingCalled

@@ -1,5 +1,5 @@
 -- Texts that are the same are the same line by line: each line ends at its first newline, its numbers at a space.
-use Prim.Native.Nat.{ℕ, suc, _+_, _<_}
+use Prim.Native.Nat.{ℕ, suc, _<_}
 use native.Mathlib.Omega.{arith}
 use mathlib.Core.Path.{_≡_, refl, sym, ap, ap₂, _∙_}
 use mathlib.Core.Bool.{Bool, true, false, cond}
@@ -9,7 +9,7 @@ use lib.ListN.{length, length-append}
 use borrow.Author.Tests.{eqb-false}
 use Rattle.meaning.specs.Every.{Every}
 use Rattle.meaning.specs.Records.{Record}
-use Rattle.theorems.proofs.Every.{every-append}
+use Rattle.meaning.proofs.EveryLaws.{every-append}
 use Rattle.listing_text.specs.Decimal.{decimal}
 use Rattle.listing_text.specs.Lines.{ascii, newline, named, stateCounts, logCounts, firstLine, captionText, stateText, nodeLine}
 use Rattle.listing_text.specs.Listing.{nodeLines}

@@ -1,2 +1,3 @@
 pub mod ListingCalled
 pub mod ListingTells
+pub mod ListingFiles

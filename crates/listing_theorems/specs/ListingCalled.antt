@@ -1,16 +1,16 @@
 -- The calls make the listing: over the tables that recovery left, with the sources it was given, what `node_line` writes for each
 -- node in turn, behind the first line, is the text of the listing.
-use Prim.Native.Nat.{ℕ, zero, suc, _+_, _≤_}
+use Prim.Native.Nat.{ℕ, zero, suc, _≤_}
 use mathlib.Core.Path.{_≡_}
 use mathlib.Core.List.{List, [], _++_}
 use lib.ListN.{length}
-use Rattle.config.specs.Limits.{maxMetadata}
 use Rattle.fields.specs.Fields.{Bytes}
 use Rattle.refusal.specs.Refusal.{Result, answer, refused}
 use Rattle.meaning.specs.Recovery.{Recovered, recovered, recordCount}
 use Rattle.meaning.specs.Calls.{recoverCall, recoverTables, recoveryTold}
 use Rattle.listing_text.specs.Lines.{firstLine}
 use Rattle.listing_text.specs.Listing.{headingOf, listingText, nodeLineCall}
+use Rattle.listing_text.specs.Files.{longestLine}
 
 -- what a call wrote
 abbrev pub textOf : Result (List ℕ) → List ℕ
@@ -21,10 +21,6 @@ textOf (refused why) = []
 unfoldable pub calledFrom : (ℕ → Result (List ℕ)) → ℕ → ℕ → List ℕ
 calledFrom call zero k = []
 calledFrom call (suc n) k = textOf (call k) ++ calledFrom call n (suc k)
-
--- the longest line of a node: a caption behind 5 digits, a space, 20 digits and ` live `, and the newline
-abbrev pub longestLine : ℕ
-longestLine = maxMetadata + 33
 
 -- each call may be lent an output of its own
 pub record ListingCalled : Type 0 where

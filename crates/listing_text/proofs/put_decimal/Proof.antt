@@ -3,7 +3,7 @@ use Prim.Native.Nat.{ℕ, _+_}
 use native.Mathlib.Omega.{arith}
 use mathlib.Core.Path.{ap}
 use borrow.Author.Needs.{needs}
-use Rattle.listing_text.proofs.Spelled.{Spelled, spelled-none, spelled-more, spelled-all, behind, inside}
+use Rattle.listing_text.proofs.Spelled.{Spelled, spelled-none, spelled-more, spelled-all, behind, before-inside, first-inside}
 use Rattle.listing_text.proofs.put_decimal.Statement.{statement}
 use Rattle.listing_text.proofs.put_decimal.Tie as tie
 
@@ -17,36 +17,21 @@ loop-holds : tie.Need-loop-holds Inv-loop μ-loop
 loop-holds c = let a = c .before .before .args in spelled-none (a .at) (a .n) _ (a .out .now) (ap (λ (k : ℕ). a .at + k) (c .digit-count .ensures .0))
 
 sub-i : tie.Need-sub-i Inv-loop μ-loop
-sub-i c =
-    let l = c .before .loop in
-    let s = c .before .before .before .before in
-    omega (arith, behind (s .args .at) (s .args .n) (s .args .out .now) (l .out) (l .i) (l .rest) (s .pre) (l .inv))
+sub-i c = omega (arith, behind (c .before .before .before .before .pre) (c .before .loop .inv))
 
 slice-write-out : tie.Need-slice-write-out Inv-loop μ-loop
-slice-write-out c =
-    let l = c .before .before .loop in
-    let s = c .before .before .before .before .before in
-    let first = behind (s .args .at) (s .args .n) (s .args .out .now) (l .out) (l .i) (l .rest) (s .pre) (l .inv) in
-    omega (arith, first, inside (s .args .at) (s .args .n) (s .args .out .now) (l .out) (l .i) (l .rest) (s .pre) (l .inv), l .inv .kept)
+slice-write-out c = before-inside (c .before .before .before .before .before .pre) (c .before .before .loop .inv)
 
 loop-again : tie.Need-loop-again Inv-loop μ-loop
-loop-again c =
-    let l = c .before .before .loop in
-    let s = c .before .before .before .before .before in
-    spelled-more (s .args .at) (s .args .n) (s .args .out .now) (l .out) (l .i) (l .rest) (s .pre) (l .inv) (c .before .loop-test .taken) _ (c .digit-of .ensures)
+loop-again c = spelled-more (c .before .before .before .before .before .pre) (c .before .before .loop .inv) (c .before .loop-test .taken) _ (c .digit-of .ensures)
 
 slice-write-out-2 : tie.Need-slice-write-out-2 Inv-loop μ-loop
-slice-write-out-2 c =
-    let l = c .before .before .loop in
-    let s = c .before .before .before .before .before in
-    let first = behind (s .args .at) (s .args .n) (s .args .out .now) (l .out) (l .i) (l .rest) (s .pre) (l .inv) in
-    omega (arith, first, inside (s .args .at) (s .args .n) (s .args .out .now) (l .out) (l .i) (l .rest) (s .pre) (l .inv), l .inv .kept)
+slice-write-out-2 c = first-inside (c .before .before .before .before .before .pre) (c .before .before .loop .inv)
 
 returns : tie.Need-returns Inv-loop μ-loop
 returns c =
-    let l = c .before .before .loop in
     let s = c .before .before .before .before .before in
-    (ap (λ (k : ℕ). s .args .at + k) (c .before .before .before .digit-count .ensures .0), spelled-all (s .args .at) (s .args .n) (s .args .out .now) (l .out) (l .i) (l .rest) (s .pre) (l .inv) (c .before .loop-test .left) _ (c .digit-of2 .ensures))
+    (ap (λ (k : ℕ). s .args .at + k) (c .before .before .before .digit-count .ensures .0), spelled-all (s .pre) (c .before .before .loop .inv) (c .before .loop-test .left) _ (c .digit-of2 .ensures))
 
 pub put-decimal-spec : {M : Type 1} → statement M
 put-decimal-spec =

@@ -1,13 +1,11 @@
 -- `put_log` puts four numbers with their words one behind the other.
 use Prim.Native.Nat.{ℕ, _+_, _≤_}
 use native.Mathlib.Omega.{arith}
-use mathlib.Core.Path.{ap, _∙_}
 use mathlib.Core.List.{List}
 use lib.ListN.{length}
-use Rattle.fields.specs.Placed.{placed}
 use Rattle.listing_text.specs.Lines.{ascii, named}
-use Rattle.listing_text.proofs.LineLaws.{length-four, four}
-use Rattle.listing_text.proofs.PutLaws.{first-put, then-put}
+use Rattle.listing_text.proofs.LineLaws.{length-four}
+use Rattle.listing_text.proofs.PutLaws.{four-puts}
 use borrow.Author.Needs.{needs}
 use Rattle.listing_text.proofs.put_log.Statement.{statement}
 use Rattle.listing_text.proofs.put_log.Tie as tie
@@ -43,13 +41,7 @@ returns c =
     let p2 = p3 .before .before .before .before .before in
     let p1 = p2 .before .before .before .before .before in
     let s = p1 .before .before .before .before in
-    let h : s .args .at ≤ length (s .args .out .now) = omega (arith, room s) in
-    let q1 = first-put (replayed s) (p1 .put-named .ensures .0) (p1 .put-named .ensures .1) in
-    let q2 = then-put (skipped s) h q1 (p2 .put-named2 .ensures .0) (p2 .put-named2 .ensures .1) in
-    let q3 = then-put (keep s) h q2 (p3 .put-named3 .ensures .0) (p3 .put-named3 .ensures .1) in
-    let q4 = then-put (tail s) h q3 (p4 .put-named4 .ensures .0) (p4 .put-named4 .ensures .1) in
-    let e = four (replayed s) (skipped s) (keep s) (tail s) in
-    (q4 .cursor ∙ ap (λ (l : List ℕ). s .args .at + length l) e, q4 .same ∙ ap (λ (l : List ℕ). placed (s .args .at) l (s .args .out .now)) e)
+    four-puts (s .args .at) (s .args .out .now) (omega (arith, room s)) (replayed s) (skipped s) (keep s) (tail s) (p1 .put-named .ensures) (p2 .put-named2 .ensures) (p3 .put-named3 .ensures) (p4 .put-named4 .ensures)
 
 pub put-log-spec : {M : Type 1} → statement M
 put-log-spec =

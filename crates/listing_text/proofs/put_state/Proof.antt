@@ -1,13 +1,11 @@
 -- `put_state` puts three numbers with their words one behind the other.
 use Prim.Native.Nat.{ℕ, _+_, _≤_}
 use native.Mathlib.Omega.{arith}
-use mathlib.Core.Path.{ap, _∙_}
-use mathlib.Core.List.{List, append-assoc}
+use mathlib.Core.List.{List}
 use lib.ListN.{length}
-use Rattle.fields.specs.Placed.{placed}
 use Rattle.listing_text.specs.Lines.{ascii, named}
 use Rattle.listing_text.proofs.LineLaws.{length-three}
-use Rattle.listing_text.proofs.PutLaws.{first-put, then-put}
+use Rattle.listing_text.proofs.PutLaws.{three-puts}
 use borrow.Author.Needs.{needs}
 use Rattle.listing_text.proofs.put_state.Statement.{statement}
 use Rattle.listing_text.proofs.put_state.Tie as tie
@@ -36,12 +34,7 @@ returns c =
     let p2 = p3 .before .before .before .before .before in
     let p1 = p2 .before .before .before .before .before in
     let s = p1 .before .before .before .before in
-    let h : s .args .at ≤ length (s .args .out .now) = omega (arith, room s) in
-    let q1 = first-put (seq s) (p1 .put-named .ensures .0) (p1 .put-named .ensures .1) in
-    let q2 = then-put (records s) h q1 (p2 .put-named2 .ensures .0) (p2 .put-named2 .ensures .1) in
-    let q3 = then-put (active s) h q2 (p3 .put-named3 .ensures .0) (p3 .put-named3 .ensures .1) in
-    let e = append-assoc (seq s) (records s) (active s) in
-    (q3 .cursor ∙ ap (λ (l : List ℕ). s .args .at + length l) e, q3 .same ∙ ap (λ (l : List ℕ). placed (s .args .at) l (s .args .out .now)) e)
+    three-puts (s .args .at) (s .args .out .now) (omega (arith, room s)) (seq s) (records s) (active s) (p1 .put-named .ensures) (p2 .put-named2 .ensures) (p3 .put-named3 .ensures)
 
 pub put-state-spec : {M : Type 1} → statement M
 put-state-spec =
