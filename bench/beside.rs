@@ -1,6 +1,6 @@
 // What the drivers share that run beside the original: the clock, turns, a generator, captions, snapshots, files in memory, the
 // comparison of records, the lines of a table, and the depth of a call's stack.
-use crate::{Record, storage};
+use crate::{Record, storage, table::row};
 use std::{
     collections::BTreeMap,
     fs::{self, File},
@@ -199,17 +199,15 @@ pub fn tell_heads() {
     );
 }
 
-pub fn tell(what: &str, [theirs, bare, ours]: &[Times; 3], wanted: f64) {
+pub fn tell(case: &str, what: &str, [theirs, bare, ours]: &[Times; 3], wanted: f64) {
     print!("  {what:8}");
     for t in [theirs, bare, ours] {
         print!("{:10.2}{:10.2}", t.best * 1e3, t.median * 1e3);
     }
     print!("{:9.2}{:7.2}", theirs.best / ours.best, theirs.median / ours.median);
-    println!(
-        "{:9.2}{:7.2}, wanted {wanted}",
-        (theirs.best - bare.best) / ours.best,
-        (theirs.median - bare.median) / ours.median
-    );
+    let (best, median) = ((theirs.best - bare.best) / ours.best, (theirs.median - bare.median) / ours.median);
+    println!("{best:9.2}{median:7.2}, wanted {wanted}");
+    row(case, best, median, wanted);
 }
 
 // The bytes of stack that `f` takes beyond those of a thread that does nothing: `f` runs on a painted stack.

@@ -6,6 +6,7 @@
 include!("../target/bench/vecnook.rs");
 #[allow(dead_code)]
 mod beside;
+mod table;
 
 use beside::{Dice, Folder, PIECE, stack_of, tell, tell_heads, time, turns};
 use index::GraphState;
@@ -168,7 +169,7 @@ fn compare(count: usize, m: usize, rounds: usize) {
             &mut || time(|| read_proved(black_box(&bytes), m, count, &mut starts)),
         ],
     );
-    tell("reading", &reading, 3.0);
+    tell(&format!("cache read, {count} nodes, M {m}"), "reading", &reading, 3.0);
 }
 
 fn main() {

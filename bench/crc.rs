@@ -1,6 +1,7 @@
 // Times the proved CRC beside a byte-table loop as the original has it, zlib, and libdeflate, which uses the machine's own
 // instructions for polynomials, in one run.
 // Each figure is the best of several rounds, in processor time, so that a busy machine spoils it less.
+mod table;
 use std::hint::black_box;
 
 extern "C" {
@@ -122,7 +123,7 @@ fn best(s: &[u8], size: usize, rounds: usize) -> Times {
     least
 }
 
-fn table(sizes: &[usize], times: &[Times], cell: impl Fn(usize, &Times, usize) -> String) {
+fn show(sizes: &[usize], times: &[Times], cell: impl Fn(usize, &Times, usize) -> String) {
     print!("{:17}", "");
     for size in sizes {
         let name = match size {
@@ -161,13 +162,21 @@ fn main() {
     println!("all ways agree; nanoseconds a call, and times the original's");
     let short = [4, 16, 64, 125, 256, 512, 1024];
     let times: Vec<Times> = short.iter().map(|&size| best(&bytes[..1 << 20], size, 25)).collect();
-    table(&short, &times, |k, f, _| format!("{:.1} {:5.2}", f[k], f[k] / f[ORIGINAL]));
+    show(&short, &times, |k, f, _| format!("{:.1} {:5.2}", f[k], f[k] / f[ORIGINAL]));
     println!("MB/s, and times zlib's speed");
     let long = [2048, 4096, 5120, 8192, 16384, 65536, 1 << 20, big];
     let speeds: Vec<Times> = long.iter().map(|&size| if size < big { best(&bytes[..1 << 20], size, 25) } else { best(&bytes, size, 15) }).collect();
-    table(&long, &speeds, |k, f, size| format!("{:.0} {:5.2}", size as f64 / f[k] * 1e3, f[ZLIB] / f[k]));
+    show(&long, &speeds, |k, f, size| format!("{:.0} {:5.2}", size as f64 / f[k] * 1e3, f[ZLIB] / f[k]));
     let whole = speeds[7];
-    println!("64 MiB: crc32 has {:.2} times the original's speed (wanted 6), {:.2} times zlib's (wanted 4)", whole[ORIGINAL] / whole[CRC32], whole[ZLIB] / whole[CRC32]);
-    println!("64 KiB: {:.2} times zlib's (wanted 2.5); 8 KiB: {:.2} times (wanted 1.1)", speeds[5][ZLIB] / speeds[5][CRC32], speeds[3][ZLIB] / speeds[3][CRC32]);
-    println!("4 B: crc32 takes {:.2} times the original's time, lent {:.2} (wanted: at most 3)", times[0][CRC32] / times[0][ORIGINAL], times[0][LENT] / times[0][ORIGINAL]);
+    for (what, times, ours, theirs, wanted) in [
+        ("CRC of 64 MiB, against the original's loop", whole, CRC32, ORIGINAL, 6.0),
+        ("CRC of 64 MiB, against zlib", whole, CRC32, ZLIB, 4.0),
+        ("CRC of 1 MiB, against zlib", speeds[6], CRC32, ZLIB, 0.0),
+        ("CRC of 64 KiB, against zlib", speeds[5], CRC32, ZLIB, 2.5),
+        ("CRC of 8 KiB, against zlib", speeds[3], CRC32, ZLIB, 1.1),
+        ("CRC of 4 bytes, against the original's loop", times[0], CRC32, ORIGINAL, 1.0 / 3.0),
+        ("CRC of 4 bytes, tables lent, against the original's loop", times[0], LENT, ORIGINAL, 1.0 / 3.0),
+    ] {
+        table::row(what, times[theirs] / times[ours], 0.0, wanted);
+    }
 }

@@ -4,6 +4,7 @@
 include!("../target/bench/vecnook.rs");
 #[allow(dead_code)]
 mod beside;
+mod table;
 
 use beside::{CAPTION, Dice, caption, stack_of, time, turns};
 use std::hint::black_box;
@@ -140,6 +141,7 @@ fn compare(kind: &str, data: &Data) {
             a.best / b.best,
             a.median / b.median
         );
+        table::row(&format!("puts encoded {name}, {kind} captions"), a.best / b.best, a.median / b.median, f64::from(wanted));
     }
 }
 

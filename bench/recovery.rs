@@ -6,6 +6,7 @@
 include!("../target/bench/vecnook.rs");
 #[allow(dead_code)]
 mod beside;
+mod table;
 
 use beside::{
     Dice, Folder, MAX_RECORDS, PIECE, hold_records, mixed_caption, snapshot, stack_of, tell, tell_heads, time, turns,
@@ -185,7 +186,7 @@ fn hold(case: &Case, theirs: &Recovered, lent: &Lent) {
     assert_eq!(lent.told, told);
 }
 
-fn compare(case: &Case, rounds: usize) {
+fn compare(n: usize, case: &Case, rounds: usize) {
     let folder = Folder::new("recovery");
     folder.write("snapshot.bin", &case.snapshot);
     folder.write("wal.bin", &case.log);
@@ -213,14 +214,14 @@ fn compare(case: &Case, rounds: usize) {
             &mut || time(|| recover(black_box(case), &mut lent)),
         ],
     );
-    tell("", &times, case.wanted);
+    tell(&format!("recovery, {n} operations: {}", case.name), "", &times, case.wanted);
 }
 
 fn main() {
     tell_heads();
     for (n, rounds) in [(10_000, 31), (100_000, 15)] {
         println!("{n} operations, d {D}, {rounds} rounds");
-        cases(n).iter().for_each(|case| compare(case, rounds));
+        cases(n).iter().for_each(|case| compare(n, case, rounds));
     }
     for case in cases(MAX_RECORDS) {
         let mut lent = Lent::new();

@@ -3,12 +3,15 @@
 //
 // The original reads and writes files alone, so it has them in memory, in /dev/shm; ours has a slice. What the bare file costs,
 // in pieces of the original's size, is timed beside them, and the speed is told with it and without it.
+// What the memory allows is timed in the same turns: the same bytes xored, and copied a record at a time.
 // The original reads by `inspect` with an empty log and no cache: records, their sizes, and its map of IDs.
 include!("../target/bench/vecnook.rs");
 mod beside;
+mod table;
 
-use beside::{CAPTION, Dice, Folder, MAX_RECORDS, PIECE, hold_records, stack_of, tell, tell_heads, time, turns};
+use beside::{CAPTION, Dice, Folder, MAX_RECORDS, PIECE, Times, hold_records, stack_of, tell, tell_heads, time, turns};
 use std::{
+    cell::RefCell,
     fs::{self, File},
     hint::black_box,
     io::Write,
@@ -126,6 +129,17 @@ fn write_proved(d: usize, bytes: &[u8], lent: &mut Lent) {
     assert!(n as usize == out.len(), "refused {}", n & 255);
 }
 
+// What reading and writing cannot do without: each byte looked at once, or moved once.
+fn xor(bytes: &[u8]) -> u64 {
+    bytes.chunks_exact(8).fold(0, |all, word| all ^ u64::from_le_bytes(word.try_into().unwrap()))
+}
+
+fn copy(bytes: &[u8], record: usize, out: &mut [u8]) {
+    for (out, record) in out.chunks_mut(record).zip(bytes.chunks(record)) {
+        out.copy_from_slice(record);
+    }
+}
+
 // Everything that a reading gives but the settings.
 fn hold_reading(d: usize, bytes: &[u8], theirs: &Recovered, lent: &Lent) {
     let (active, size) = hold_records(d, [bytes, &[]], &theirs.records, &lent.rows, &lent.active);
@@ -140,56 +154,71 @@ fn hold_reading(d: usize, bytes: &[u8], theirs: &Recovered, lent: &Lent) {
     assert_eq!(lent.told, told);
 }
 
+// Both ways once, and what they leave compared. The original's store is then as it was read.
+fn hold(d: usize, bytes: &[u8], folder: &Folder, written: &Folder, lent: &mut Lent) -> VectorIndex {
+    let theirs = folder.inspect();
+    read_proved(bytes, lent);
+    hold_reading(d, bytes, &theirs, lent);
+    let index = VectorIndex { config: theirs.config, records: theirs.records };
+    storage::write_snapshot(&written.0, &index, SEQUENCE).unwrap_or_else(|error| panic!("{error}"));
+    write_proved(d, bytes, lent);
+    let file = fs::read(written.0.join("snapshot.bin")).unwrap();
+    assert!(file == lent.out && file == bytes, "the bytes written differ");
+    index
+}
+
+// The original, the bare file, ours, and a bare copy of the records.
+fn writing(d: usize, rounds: usize, bytes: &[u8], written: &Folder, index: &VectorIndex, lent: &RefCell<Lent>) -> [Times; 4] {
+    let record = 13 + 4 * d + CAPTION;
+    turns(
+        rounds,
+        [
+            &mut || time(|| storage::write_snapshot(&written.0, black_box(index), SEQUENCE).is_ok()),
+            &mut || time(|| write_file(&written.0, black_box(bytes))),
+            &mut || time(|| write_proved(d, black_box(bytes), &mut lent.borrow_mut())),
+            &mut || time(|| copy(black_box(bytes), record, &mut lent.borrow_mut().out)),
+        ],
+    )
+}
+
+// The original, the bare file, ours, and a bare xor of the bytes.
+fn reading(rounds: usize, bytes: &[u8], folder: &Folder, lent: &RefCell<Lent>) -> [Times; 4] {
+    let mut piece = vec![0; PIECE];
+    turns(
+        rounds,
+        [
+            &mut || time(|| black_box(folder).inspect()),
+            &mut || time(|| black_box(folder).read("snapshot.bin", &mut piece)),
+            &mut || time(|| read_proved(black_box(bytes), &mut lent.borrow_mut())),
+            &mut || time(|| xor(black_box(bytes))),
+        ],
+    )
+}
+
 fn compare(d: usize, random: bool, rounds: usize) {
+    let ids = if random { "random" } else { "rising" };
     let bytes = snapshot(d, random);
-    let folder = Folder::new("read");
-    let written = Folder::new("written");
+    let (folder, written) = (Folder::new("read"), Folder::new("written"));
     folder.write("snapshot.bin", &bytes);
     folder.write("wal.bin", &[]);
     let mut lent = Lent::new(bytes.len());
-
-    let theirs = folder.inspect();
-    read_proved(&bytes, &mut lent);
-    hold_reading(d, &bytes, &theirs, &lent);
-    let index = VectorIndex { config: theirs.config, records: theirs.records };
-    storage::write_snapshot(&written.0, &index, SEQUENCE).unwrap_or_else(|error| panic!("{error}"));
-    write_proved(d, &bytes, &mut lent);
-    let file = fs::read(written.0.join("snapshot.bin")).unwrap();
-    assert!(file == lent.out && file == bytes, "the bytes written differ");
-    drop(file);
-    println!(
-        "d {d}, {} records, {} bytes, {} IDs, {rounds} rounds; all alike",
-        index.records.len(),
-        bytes.len(),
-        if random { "random" } else { "rising" }
-    );
-
-    let writing = turns(
-        rounds,
-        [
-            &mut || time(|| storage::write_snapshot(&written.0, black_box(&index), SEQUENCE).is_ok()),
-            &mut || time(|| write_file(&written.0, black_box(&bytes))),
-            &mut || time(|| write_proved(d, black_box(&bytes), &mut lent)),
-        ],
-    );
+    let index = hold(d, &bytes, &folder, &written, &mut lent);
+    println!("d {d}, {} records, {} bytes, {ids} IDs, {rounds} rounds; all alike", index.records.len(), bytes.len());
+    let lent = RefCell::new(lent);
+    let [a, b, c, copied] = writing(d, rounds, &bytes, &written, &index, &lent);
+    let write = [a, b, c];
     // the original's reading starts without another store in memory
     drop(index);
-    let mut piece = vec![0; PIECE];
-    let reading = turns(
-        rounds,
-        [
-            &mut || time(|| black_box(&folder).inspect()),
-            &mut || time(|| black_box(&folder).read("snapshot.bin", &mut piece)),
-            &mut || time(|| read_proved(black_box(&bytes), &mut lent)),
-        ],
-    );
-    let (read, write) = match (d, random) {
+    let [a, b, c, xored] = reading(rounds, &bytes, &folder, &lent);
+    let (wanted_read, wanted_write) = match (d, random) {
         (768, _) => (25.0, 25.0),
         (_, false) => (12.0, 12.0),
         (_, true) => (2.0, 1.0),
     };
-    tell("reading", &reading, read);
-    tell("writing", &writing, write);
+    tell(&format!("snapshot read, d {d}, {ids} IDs"), "reading", &[a, b, c], wanted_read);
+    tell(&format!("snapshot written, d {d}, {ids} IDs"), "writing", &write, wanted_write);
+    print!("  the bytes alone: xored {:.2} {:.2}", xored.best * 1e3, xored.median * 1e3);
+    println!(", copied a record at a time {:.2} {:.2}", copied.best * 1e3, copied.median * 1e3);
 }
 
 fn tell_memory(d: usize, random: bool) {

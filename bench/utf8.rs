@@ -1,5 +1,6 @@
 // Compares the proved UTF-8 check with std::str::from_utf8, for speed and for answers, in one process.
 // Links libmeasure_utf8.a, compiled for the host. `utf8 [time|same]`: without a word, both.
+mod table;
 use std::hint::black_box;
 use std::time::Instant;
 
@@ -111,6 +112,7 @@ fn row(name: &str, set: &[Vec<u8>], target: f64) {
     let mean = bytes as f64 / set.len() as f64;
     let want = if 0.0 < target { format!("{:.1} {}", target, if target <= b / a { "met" } else { "MISSED" }) } else { String::new() };
     println!("{:34} {:8.1} bytes  ours {:9.1} ns {:6.2} GB/s  std {:9.1} ns {:6.2} GB/s  ratio {:5.2}  {}", name, mean, a, mean / a, b, mean / b, b / a, want);
+    table::row(&format!("UTF-8 of {name}, against Rust's own"), b / a, 0.0, target);
 }
 
 fn time() {
@@ -148,7 +150,7 @@ impl Same {
     }
 }
 
-fn same() {
+fn same_short() {
     let mut all = Same { tried: 0, good: 0 };
     all.hold(&[]);
     for a in 0..=255u8 {
@@ -161,6 +163,9 @@ fn same() {
         }
     }
     println!("same on all strings of 0 to 3 bytes: {} tried, {} are UTF-8", all.tried, all.good);
+}
+
+fn same_edges() {
     let edges = [0x00u8, 0x41, 0x7F, 0x80, 0x81, 0x8F, 0x90, 0x91, 0x9F, 0xA0, 0xA1, 0xBE, 0xBF, 0xC0, 0xC1, 0xC2, 0xDF, 0xE0, 0xED, 0xEF, 0xF0, 0xF4, 0xF5, 0xF8, 0xFC, 0xFF];
     let mut all = Same { tried: 0, good: 0 };
     for a in 0..=255u8 {
@@ -175,6 +180,9 @@ fn same() {
         }
     }
     println!("same on strings of 4 to 6 bytes, every first two, {} edges after: {} tried, {} are UTF-8", edges.len(), all.tried, all.good);
+}
+
+fn same_in_ascii() {
     let mut all = Same { tried: 0, good: 0 };
     let chars: [&[u8]; 16] = [&[0xC2, 0x80], &[0xDF, 0xBF], &[0xE0, 0xA0, 0x80], &[0xED, 0x9F, 0xBF], &[0xEF, 0xBF, 0xBF], &[0xF0, 0x90, 0x80, 0x80], &[0xF4, 0x8F, 0xBF, 0xBF], &[0x80], &[0xC0, 0x80], &[0xE0, 0x9F, 0xBF], &[0xED, 0xA0, 0x80], &[0xF4, 0x90, 0x80, 0x80], &[0xE2, 0x82], &[0xF0, 0x9F, 0x98], &[0xFF], &[0x7F]];
     for n in 0..=100usize {
@@ -191,6 +199,9 @@ fn same() {
         }
     }
     println!("same on ASCII of 0 to 100 bytes with a character or a bad one at every place: {} tried, {} are UTF-8", all.tried, all.good);
+}
+
+fn same_captions() {
     let mut dice = Dice(42);
     let mut all = Same { tried: 0, good: 0 };
     for mut c in captions(&[GERMAN, FRENCH, GREEK, JAPANESE, FACES], 1, 90, 20000, &mut dice) {
@@ -212,7 +223,10 @@ fn same() {
 fn main() {
     let word = std::env::args().nth(1).unwrap_or_default();
     if word != "time" {
-        same();
+        same_short();
+        same_edges();
+        same_in_ascii();
+        same_captions();
     }
     if word != "same" {
         time();

@@ -77,12 +77,43 @@ struct file {
     size_t length;
 };
 
+/* Reads on to the file's end, or to most + 1 bytes; room is what it seems to need. */
+static int read_open(int file, size_t room, size_t most, struct file *f)
+{
+    f->length = 0;
+    f->bytes = malloc(room);
+    while (f->bytes != NULL) {
+        ssize_t n;
+        if (f->length == room) { /* it has grown since */
+            if (room > most)
+                return 0;
+            room = room > most / 2 ? most + 1 : 2 * room;
+            uint8_t *more = realloc(f->bytes, room);
+            if (more == NULL)
+                free(f->bytes);
+            f->bytes = more;
+            continue;
+        }
+        n = read(file, f->bytes + f->length, room - f->length);
+        if (n == 0)
+            return 0;
+        if (n > 0)
+            f->length += (size_t)n;
+        else if (errno != EINTR) {
+            int error = errno;
+            free(f->bytes);
+            f->bytes = NULL;
+            return error;
+        }
+    }
+    return ENOMEM;
+}
+
 /* Reads a file of the folder up to its end, or up to one byte more than `most`: then a call refuses it as too long. Gives 0, or errno;
  * a folder or a device in the file's place is refused, and a pipe is not waited for. */
 static int read_file(int folder, const char *name, size_t most, struct file *f)
 {
     struct stat now;
-    size_t room;
     int error = 0;
     int file = openat(folder, name, O_RDONLY | O_CLOEXEC | O_NONBLOCK | O_NOCTTY);
     if (file < 0)
@@ -91,42 +122,8 @@ static int read_file(int folder, const char *name, size_t most, struct file *f)
         error = errno;
     else if (!S_ISREG(now.st_mode))
         error = S_ISDIR(now.st_mode) ? EISDIR : EINVAL;
-    if (error != 0) {
-        close(file);
-        return error;
-    }
-    room = ((uintmax_t)now.st_size < most ? (size_t)now.st_size : most) + 1;
-    f->length = 0;
-    f->bytes = malloc(room);
-    while (f->bytes != NULL) {
-        ssize_t n;
-        if (f->length == room) { /* it has grown since */
-            uint8_t *more;
-            if (room > most)
-                break;
-            room = room > most / 2 ? most + 1 : 2 * room;
-            more = realloc(f->bytes, room);
-            if (more == NULL)
-                free(f->bytes);
-            f->bytes = more;
-            continue;
-        }
-        n = read(file, f->bytes + f->length, room - f->length);
-        if (n == 0)
-            break;
-        if (n > 0)
-            f->length += (size_t)n;
-        else if (errno != EINTR) {
-            error = errno;
-            break;
-        }
-    }
-    if (f->bytes == NULL)
-        error = ENOMEM;
-    else if (error != 0) {
-        free(f->bytes);
-        f->bytes = NULL;
-    }
+    else
+        error = read_open(file, ((uintmax_t)now.st_size < most ? (size_t)now.st_size : most) + 1, most, f);
     close(file);
     return error;
 }
@@ -239,7 +236,7 @@ static const char *meaning(uint32_t number)
     case LAMBSPOOL_STORAGE_LIMITS: return "with this frame the store has too many records, or too many bytes";
     case LAMBSPOOL_INACTIVE_DELETE: return "the frame deletes an ID that is not live";
     case LAMBSPOOL_TOO_LARGE: return "the snapshot would be longer than 268,435,456 bytes";
-    default: return "see docs/BELIEVE.md";
+    default: return "lambspool.h says what the number means";
     }
 }
 
@@ -389,12 +386,30 @@ static int usage(const char *what)
     return FAILED;
 }
 
+/* The command, once its words are in order. */
+static int run(const char *command, const char *folder, const char *file, bool compacted)
+{
+    int status;
+    struct store *s = calloc(1, sizeof *s);
+    if (s == NULL)
+        return failed("no memory for the tables");
+    status = read_store(folder, strcmp(command, "check") == 0, s);
+    if (status == ACCEPTED)
+        status = file != NULL ? snapshot(s, file, compacted) : strcmp(command, "check") == 0 ? check(s) : list(s);
+    free(s->snapshot.bytes);
+    free(s->log.bytes);
+    free(s->cache.bytes);
+    free(s);
+    if (output_error == 0 && fflush(stdout) != 0)
+        output_error = errno;
+    return output_error == 0 ? status : failed("standard output: %s", strerror(output_error));
+}
+
 int main(int count, char **words)
 {
     const char *named[3] = {NULL, NULL, NULL};
-    int names = 0, status;
-    bool compacted = false;
-    struct store *s;
+    int names = 0;
+    bool compacted = false, is_snapshot;
 
     for (int i = 1; i < count; i++) {
         if (strcmp(words[i], "--help") == 0)
@@ -412,25 +427,12 @@ int main(int count, char **words)
     }
     if (names == 0)
         return usage("a command and a folder are needed");
-    bool is_list = strcmp(named[0], "list") == 0, is_check = strcmp(named[0], "check") == 0, is_snapshot = strcmp(named[0], "snapshot") == 0;
-    if (!is_list && !is_check && !is_snapshot)
+    is_snapshot = strcmp(named[0], "snapshot") == 0;
+    if (!is_snapshot && strcmp(named[0], "list") != 0 && strcmp(named[0], "check") != 0)
         return usage("no such command");
     if (names != (is_snapshot ? 3 : 2))
         return usage(is_snapshot ? "snapshot needs a folder and a new file" : "one folder is needed");
     if (compacted && !is_snapshot)
         return usage("--compacted is for snapshot");
-
-    s = calloc(1, sizeof *s);
-    if (s == NULL)
-        return failed("no memory for the tables");
-    status = read_store(named[1], is_check, s);
-    if (status == ACCEPTED)
-        status = is_list ? list(s) : is_check ? check(s) : snapshot(s, named[2], compacted);
-    free(s->snapshot.bytes);
-    free(s->log.bytes);
-    free(s->cache.bytes);
-    free(s);
-    if (output_error == 0 && fflush(stdout) != 0)
-        output_error = errno;
-    return output_error == 0 ? status : failed("standard output: %s", strerror(output_error));
+    return run(named[0], named[1], named[2], compacted);
 }

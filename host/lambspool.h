@@ -75,7 +75,7 @@ enum lambspool_number {
     LAMBSPOOL_WRONG_DIMENSIONS = 6,      /* not 1 to 4096 */
     LAMBSPOOL_WRONG_M = 7,               /* not 2 to 64 */
     LAMBSPOOL_WRONG_EF = 8,              /* not M to 4096 */
-    LAMBSPOOL_WRONG_COUNT = 9,           /* of records: over 100,000, or more than can follow */
+    LAMBSPOOL_WRONG_COUNT = 9,           /* of records: over 100,000, more than can follow, or in version 1 over the sequence */
     LAMBSPOOL_WRONG_FLAG = 10,           /* of a record: not 0 or 1 */
     LAMBSPOOL_VECTOR_PAST_THE_END = 11,  /* of a snapshot's record */
     LAMBSPOOL_NOT_FINITE = 12,           /* a coordinate */
@@ -97,7 +97,8 @@ enum lambspool_number {
     LAMBSPOOL_STORAGE_LIMITS = 28,       /* a put finds 100,000 records, or passes a snapshot's bytes */
     LAMBSPOOL_INACTIVE_DELETE = 29,      /* a frame of one delete whose ID is not live */
     LAMBSPOOL_NO_SUCH_NODE = 30,         /* a node or a count is not within the table lent, or a level not within a node */
-    LAMBSPOOL_ROW_DOES_NOT_FIT = 31,     /* a row's part is not inside the bytes handed in */
+    LAMBSPOOL_ROW_DOES_NOT_FIT = 31,     /* a row's part, or a cache's byte, is not inside the bytes handed in; to a writer also: a deleted row with
+                                            a caption length, or a length over 16,384 */
     LAMBSPOOL_OUTPUT_TOO_SHORT = 32,     /* the room lent */
     LAMBSPOOL_REQUEST_MALFORMED = 33,    /* operations handed to an encoder */
     LAMBSPOOL_TOO_LARGE = 34,            /* the snapshot to be written */
@@ -141,7 +142,7 @@ enum lambspool_number {
 #define LAMBSPOOL_ROW_OFFSET(word) ((size_t)((uint64_t)(word) & 0x7fffffffffff)) /* of the first coordinate byte in the source */
 
 /* An operation is the ID, then a packed word: of a put, where its caption lies in the captions handed in; of a delete, 0. A length
- * that has no place in the word becomes the largest that has, which is refused by 14 as the length itself would be. */
+ * that has no place in the word becomes the largest that has, which is refused by 14 as the length itself would be. LAMBSPOOL_PUT evaluates its length twice. */
 #define LAMBSPOOL_PUT(caption_length, caption_offset) \
     ((uint64_t)1 << 63 | (uint64_t)((caption_length) > 0x7fff ? 0x7fff : (caption_length)) << 48 | ((uint64_t)(caption_offset) & 0xffffffffffff))
 #define LAMBSPOOL_DELETE ((uint64_t)0)
@@ -213,14 +214,14 @@ lambspool_recovery *lambspool_recover(lambspool_recovery *result, const void *sn
 
 /* ---- looking at what was read: the tables, and the very bytes that were handed to the reading */
 
-typedef struct lambspool_node {
+typedef struct lambspool_found {
     uint32_t number;
     uint32_t node;
-} lambspool_node;
+} lambspool_found;
 
-lambspool_node lambspool_lookup(const uint64_t *rows, size_t row_words, size_t count, uint64_t id);
+lambspool_found lambspool_lookup(const uint64_t *rows, size_t row_words, size_t count, uint64_t id);
 /* The lowest live node of an ID below `count`, which is the records that the reading told; LAMBSPOOL_NO_NODE if there is none.
- * Refused by 30 if the table has no `count` rows. */
+ * Refused by 30 if `count` is over row_words / 2 or over 100,000, as the views and the writers are. */
 
 typedef struct lambspool_part {
     uint32_t number;
@@ -293,7 +294,7 @@ lambspool_bytes lambspool_encode_batch(size_t dimensions, size_t m, size_t ef_co
     const void *captions, size_t captions_length, void *out, size_t room);
 /* Writes one frame of the log: of exactly one operation, or of a batch of 1 to 1024 that is taken whole or not at all. `operations`
  * has two words each; `coordinates` the bits of the f32 coordinates, `dimensions` for each put, in the order of the puts. `sequence`
- * is one more than that of the log's last frame; docs/PLAYOUT.md says when a frame may be appended.
+ * is one more than that of the log's last frame, or of an empty log than the snapshot's; docs/PLAYOUT.md says when a frame may be appended.
  *
  * Refused by 5 to 8, 24 (sequence 0), 25, 33, then for each operation 14, 33, 12, 13, 15; then 22, 32. */
 

@@ -14,7 +14,7 @@
  * `length` bytes, `out` can be written for `room` bytes, and no one else changes them until the call is back. No alignment is asked.
  * With length or room 0 the pointer may be null; nothing is read or written through it. No call keeps a pointer, allocates, blocks,
  * sets errno, or has state: any number may run at once in threads, and in a signal handler.
- * The CRC makes what it needs on the stack: leave 20 KiB for 384 bytes or more, and 36 KiB for 4096 or more. */
+ * The CRC makes what it needs on the stack: leave 64 KiB, on which tests run the same CRC. */
 #ifndef PLAYOUT_H
 #define PLAYOUT_H
 

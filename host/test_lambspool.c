@@ -189,7 +189,12 @@ static void recoveries(void)
         few = few && r.number == LAMBSPOOL_TOO_FEW_ROWS && r.source == LAMBSPOOL_LOG && r.at == ends[rows < 2 ? rows : 2] && zeros(&l) && r.records == 0 && r.dimensions == 0;
     }
     check("too few rows lent: 19, and zeros", few);
-    good = true;
+}
+
+static void wrong_bytes(void)
+{
+    struct lent l;
+    bool good = true;
     for (size_t i = 0; i < log_length; i++) {
         lambspool_recovery r;
         store_log[i] ^= 0x55;
@@ -239,9 +244,14 @@ static void looks(void)
     lambspool_vector(&p, l.snapshot, l.snapshot_length, l.log, 40, l.rows, l.row_words, r.records, 1, 1);
     good = good && p.number == LAMBSPOOL_ROW_DOES_NOT_FIT;
     check("captions and vectors in place", good);
+}
 
+static void lines_of_nodes(void)
+{
+    struct lent l;
+    lambspool_recovery r = recovered(&l, ends[3] + 3, 4);
     static const char *lines[4] = {"0 7 gone\n", "1 7 live Ho\n", "2 8 gone\n", "3 9 live \n"};
-    good = true;
+    bool good = true;
     for (uint32_t node = 0; node < 4; node++)
         for (size_t room = 0, n = strlen(lines[node]); room < n + 3; room++) {
             uint8_t *out = filled(4, room);
@@ -253,8 +263,13 @@ static void looks(void)
         }
     good = good && lambspool_node_line(l.snapshot, l.snapshot_length, l.log, l.log_length, l.rows, l.row_words, r.records, 4, 1, filled(4, 9), 9).number == LAMBSPOOL_NO_SUCH_NODE;
     check("lines of nodes, with every room", good);
+}
 
-    good = true;
+static void written_again(void)
+{
+    struct lent l;
+    lambspool_recovery r = recovered(&l, ends[3] + 3, 4);
+    bool good = true;
     for (int compacted = 0; compacted < 2; compacted++) {
         size_t n = compacted ? 56 + 19 + 17 : 56 + r.size;
         for (size_t room = 0; room < n + 3; room++) {
@@ -317,21 +332,26 @@ static void lines(void)
 }
 
 /* ---- the graph cache of a snapshot with three records: node 0 has two levels */
-static void caches(void)
+static const uint64_t cache_rng = 42 + 3 * UINT64_C(0x9e3779b97f4a7c15);
+static uint8_t cache[256] = "VECGRAPH\1";
+
+static size_t made_cache(void)
 {
     static const uint8_t links[] = {2, 2, 0, 0, 0, 1, 0, 0, 0, 2, 0, 0, 0, 0, 0, 0, 0, /* 0: 1, 2; none above */
         1, 1, 0, 0, 0, 0, 0, 0, 0, 1, 0, 0, 0, 0};                                     /* 1: 0; 2: none */
-    const uint64_t rng = 42 + 3 * UINT64_C(0x9e3779b97f4a7c15);
-    uint8_t cache[256] = "VECGRAPH\1";
-    size_t n = 48 + sizeof links;
-    bool good = true;
     word(cache + 12, 77);
     word(cache + 16, 5);
     word(cache + 24, 3);
-    word(cache + 40, (uint32_t)rng);
-    word(cache + 44, (uint32_t)(rng >> 32));
+    word(cache + 40, (uint32_t)cache_rng);
+    word(cache + 44, (uint32_t)(cache_rng >> 32));
     memcpy(cache + 48, links, sizeof links);
-    n = closed(cache, n);
+    return closed(cache, 48 + sizeof links);
+}
+
+static void caches(void)
+{
+    size_t n = made_cache();
+    bool good = true;
     for (size_t words = 0; words < 6; words++) {
         uint8_t *bytes = copied(0, cache, n);
         uint64_t *starts = filled(1, 8 * words);
@@ -341,7 +361,7 @@ static void caches(void)
             good = good && c.number == LAMBSPOOL_TOO_FEW_STARTS && c.nodes == 0 && c.entry == LAMBSPOOL_NO_NODE && c.rng_state == 0 && all(starts, 8 * words, 0);
         else {
             lambspool_neighbours_part p;
-            good = good && c.number == 0 && c.nodes == 3 && c.entry == 0 && c.rng_state == rng && starts[0] == 48 && starts[1] == 65 && starts[2] == 74 && all(starts + 3, 8 * (words - 3), 0);
+            good = good && c.number == 0 && c.nodes == 3 && c.entry == 0 && c.rng_state == cache_rng && starts[0] == 48 && starts[1] == 65 && starts[2] == 74 && all(starts + 3, 8 * (words - 3), 0);
             good = good && lambspool_neighbours(&p, bytes, n, starts, words, 3, 0, 0) == &p && p.number == 0 && p.at == 53 && p.length == 8;
             lambspool_neighbours(&p, bytes, n, starts, words, 3, 0, 1);
             good = good && p.number == 0 && p.length == 0;
@@ -354,7 +374,12 @@ static void caches(void)
         }
     }
     check("a cache read, and neighbours in place", good);
-    good = true;
+}
+
+static void wrong_caches(void)
+{
+    size_t n = made_cache();
+    bool good = true;
     for (size_t i = 0; i < n; i++) {
         lambspool_cache c;
         uint64_t *starts = filled(1, 24);
@@ -433,9 +458,13 @@ static void every_call(void)
         crcs();
         example();
         recoveries();
+        wrong_bytes();
         looks();
+        lines_of_nodes();
+        written_again();
         lines();
         caches();
+        wrong_caches();
         longs();
     }
 }

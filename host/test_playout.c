@@ -57,19 +57,20 @@ struct crc_case {
     uint32_t crc;
 };
 
-static void crcs(void)
+static const struct crc_case known[] = {
+    {"", 0, 0},
+    {"a", 1, 0xe8b7be43},
+    {"abc", 3, 0x352441c2},
+    {"123456789", 9, 0xcbf43926},
+    {"message digest", 14, 0x20159d7f},
+    {"abcdefghijklmnopqrstuvwxyz", 26, 0x4c2750bd},
+    {"The quick brown fox jumps over the lazy dog", 43, 0x414fa339},
+    {"ABCDEFGHIJKLMNOPQRSTUVWXYZabcdefghijklmnopqrstuvwxyz0123456789", 62, 0x1fc2e6d2},
+    {"12345678901234567890123456789012345678901234567890123456789012345678901234567890", 80, 0x7ca94a72},
+};
+
+static void known_crcs(void)
 {
-    static const struct crc_case known[] = {
-        {"", 0, 0},
-        {"a", 1, 0xe8b7be43},
-        {"abc", 3, 0x352441c2},
-        {"123456789", 9, 0xcbf43926},
-        {"message digest", 14, 0x20159d7f},
-        {"abcdefghijklmnopqrstuvwxyz", 26, 0x4c2750bd},
-        {"The quick brown fox jumps over the lazy dog", 43, 0x414fa339},
-        {"ABCDEFGHIJKLMNOPQRSTUVWXYZabcdefghijklmnopqrstuvwxyz0123456789", 62, 0x1fc2e6d2},
-        {"12345678901234567890123456789012345678901234567890123456789012345678901234567890", 80, 0x7ca94a72},
-    };
     bool good = true;
     for (size_t i = 0; i < sizeof known / sizeof known[0]; i++)
         for (int behind = 0; behind < 2; behind++) {
@@ -88,13 +89,16 @@ static void crcs(void)
         p[i] = i;
     good = good && lambspool_crc32(p, 32) == 0x91267e8a;
     check("crc32: 32 bytes of zeros, of ones, rising", good);
+}
 
+static void crcs_bit_by_bit(void)
+{
     uint32_t seed = 1;
+    bool good = true;
     for (int i = 0; i < SPAN; i++) {
         seed = seed * 1664525 + 1013904223;
         span[i] = seed >> 24;
     }
-    good = true;
     for (size_t n = 0; n <= 1100; n++)
         for (int behind = 0; behind < 2; behind++)
             good = good && lambspool_crc32(at_fence(n, behind), n) == bit_by_bit(at_fence(n, behind), n);
@@ -149,50 +153,54 @@ static size_t utf8_of(uint32_t u, uint8_t *s)
     return 4;
 }
 
-static void utf8s(void)
+static const struct utf8_case cases[] = {
+    /* RFC 3629, section 7 */
+    {"\x41\xe2\x89\xa2\xce\x91\x2e", 7, true},
+    {"\xed\x95\x9c\xea\xb5\xad\xec\x96\xb4", 9, true},
+    {"\xe6\x97\xa5\xe6\x9c\xac\xe8\xaa\x9e", 9, true},
+    {"\xef\xbb\xbf\xf0\xa3\x8e\xb4", 7, true},
+    /* sections 3, 4 and 10: what is never UTF-8 */
+    {"\xc0\x80", 2, false},
+    {"\xc1\xbf", 2, false},
+    {"\x2f\xc0\xae\x2e\x2f", 5, false},
+    {"\xe0\x9f\xbf", 3, false},
+    {"\xed\xa1\x8c\xed\xbe\xb4", 6, false},
+    {"\xed\xa0\x80", 3, false},
+    {"\xed\xbf\xbf", 3, false},
+    {"\xf0\x8f\xbf\xbf", 4, false},
+    {"\xf4\x90\x80\x80", 4, false},
+    {"\xf5\x80\x80\x80", 4, false},
+    {"\xf8\x88\x80\x80\x80", 5, false},
+    {"\xfe", 1, false},
+    {"\xff", 1, false},
+    /* the edges of section 4's ranges */
+    {"", 0, true},
+    {"\x00", 1, true},
+    {"\x7f", 1, true},
+    {"\x80", 1, false},
+    {"\xbf", 1, false},
+    {"\xc2\x80", 2, true},
+    {"\xdf\xbf", 2, true},
+    {"\xe0\xa0\x80", 3, true},
+    {"\xed\x9f\xbf", 3, true},
+    {"\xee\x80\x80", 3, true},
+    {"\xef\xbf\xbf", 3, true},
+    {"\xf0\x90\x80\x80", 4, true},
+    {"\xf4\x8f\xbf\xbf", 4, true},
+};
+
+static void utf8_examples(void)
 {
-    static const struct utf8_case cases[] = {
-        /* RFC 3629, section 7 */
-        {"\x41\xe2\x89\xa2\xce\x91\x2e", 7, true},
-        {"\xed\x95\x9c\xea\xb5\xad\xec\x96\xb4", 9, true},
-        {"\xe6\x97\xa5\xe6\x9c\xac\xe8\xaa\x9e", 9, true},
-        {"\xef\xbb\xbf\xf0\xa3\x8e\xb4", 7, true},
-        /* sections 3, 4 and 10: what is never UTF-8 */
-        {"\xc0\x80", 2, false},
-        {"\xc1\xbf", 2, false},
-        {"\x2f\xc0\xae\x2e\x2f", 5, false},
-        {"\xe0\x9f\xbf", 3, false},
-        {"\xed\xa1\x8c\xed\xbe\xb4", 6, false},
-        {"\xed\xa0\x80", 3, false},
-        {"\xed\xbf\xbf", 3, false},
-        {"\xf0\x8f\xbf\xbf", 4, false},
-        {"\xf4\x90\x80\x80", 4, false},
-        {"\xf5\x80\x80\x80", 4, false},
-        {"\xf8\x88\x80\x80\x80", 5, false},
-        {"\xfe", 1, false},
-        {"\xff", 1, false},
-        /* the edges of section 4's ranges */
-        {"", 0, true},
-        {"\x00", 1, true},
-        {"\x7f", 1, true},
-        {"\x80", 1, false},
-        {"\xbf", 1, false},
-        {"\xc2\x80", 2, true},
-        {"\xdf\xbf", 2, true},
-        {"\xe0\xa0\x80", 3, true},
-        {"\xed\x9f\xbf", 3, true},
-        {"\xee\x80\x80", 3, true},
-        {"\xef\xbf\xbf", 3, true},
-        {"\xf0\x90\x80\x80", 4, true},
-        {"\xf4\x8f\xbf\xbf", 4, true},
-    };
     bool good = true;
     for (size_t i = 0; i < sizeof cases / sizeof cases[0]; i++)
         good = good && is_utf8(cases[i].text, cases[i].length) == cases[i].good;
     check("utf8: RFC 3629's examples, its exclusions, the edges of its ranges", good);
+}
 
+static void utf8_characters(void)
+{
     uint8_t s[8];
-    good = true;
+    bool good = true;
     for (uint32_t u = 0; u <= 0x10ffff; u++) {
         size_t n = utf8_of(u, s);
         good = good && lambspool_is_utf8(s, n) == (u < 0xd800 || u > 0xdfff);
@@ -208,8 +216,12 @@ static void utf8s(void)
             good = good && !is_utf8(s, cut) && !is_utf8(s + cut, n - cut);
     }
     check("utf8: characters cut short at either end", good);
+}
 
-    good = true;
+static void utf8_bytes(void)
+{
+    uint8_t s[2];
+    bool good = true;
     for (int a = 0; a < 256; a++)
         for (int b = 0; b < 256; b++) {
             s[0] = a;
@@ -314,8 +326,11 @@ int main(void)
 {
     check("fenced memory", fence());
     if (failed == 0) {
-        crcs();
-        utf8s();
+        known_crcs();
+        crcs_bit_by_bit();
+        utf8_examples();
+        utf8_characters();
+        utf8_bytes();
         deletes();
         nulls();
     }

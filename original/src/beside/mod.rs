@@ -59,18 +59,7 @@ impl Beside {
                 let original = crate::Config::new(numbers[0] as usize);
                 Reply::Settings(check.same("defaults", config, vecnook::settings(&original)))
             }
-            Reply::Validated(outcome) if request.call == COORDINATES => {
-                let original = vecnook::validate_vector(numbers[0], &vecnook::vector(request.parts[0]));
-                Reply::Validated(check.outcome("coordinates", outcome, original))
-            }
-            Reply::Validated(outcome) => {
-                let config = Config::from_numbers(numbers).unwrap();
-                Reply::Validated(check.outcome(
-                    "validate",
-                    outcome,
-                    vecnook::validate(&vecnook::config(&config)),
-                ))
-            }
+            Reply::Validated(outcome) => Reply::Validated(validated(request, outcome, &mut check)),
             Reply::Read { outcome, rows, active } => {
                 let sources = sources_of(request).unwrap();
                 let outcome = self.read(sources, request.call == RECOVER, outcome, &mut check);
@@ -242,4 +231,15 @@ fn written(
 fn widened(links: Vec<Vec<Vec<usize>>>) -> Vec<Vec<Vec<u64>>> {
     let widen = |neighbours: Vec<usize>| neighbours.into_iter().map(|node| node as u64).collect();
     links.into_iter().map(|layers| layers.into_iter().map(widen).collect()).collect()
+}
+
+/// Settings, or coordinates.
+fn validated(request: &Request, outcome: Result<(), u32>, check: &mut Check) -> Result<(), u32> {
+    let numbers = &request.numbers;
+    if request.call == COORDINATES {
+        let original = vecnook::validate_vector(numbers[0], &vecnook::vector(request.parts[0]));
+        return check.outcome("coordinates", outcome, original);
+    }
+    let config = Config::from_numbers(numbers).unwrap();
+    check.outcome("validate", outcome, vecnook::validate(&vecnook::config(&config)))
 }
