@@ -44,9 +44,9 @@ pub record Refused : Type 0 where
   pub accepted-by-number : (r : Recovery) → recoveryNumber r ≡ 0 → (i : RecoveryInfo) × (r ≡ Recoveries.Recovered i)
   pub refused-rightly : (lent : ℕ) (snapshot log : List ℕ) (r : Recovery) (words : List ℕ) → Recovers lent snapshot log r words → 0 < recoveryNumber r
       → RefusedRightly lent snapshot log r
-  -- the other way: a log that is to be refused so is refused so
+  -- the other way: what is to be refused so, snapshot or log, is refused so
   pub refused-if-so : (lent : ℕ) (snapshot log : List ℕ) (r : Recovery) (words : List ℕ) → Recovers lent snapshot log r words
-      → (why : Refusal) (at : ℕ) → RefusedAt lent snapshot log why at → r ≡ Recoveries.RefusedLog why at
+      → (right : Recovery) → RefusedRightly lent snapshot log right → r ≡ right
   -- a refused reading leaves its lent tables all zero
   pub recover-zeros : (snapshot log rows active : List ℕ) (r : Recovery) (rows' active' : List ℕ) → RecoverMeets snapshot log rows active r rows' active'
       → 0 < recoveryNumber r → ZeroAfter rows rows' × ZeroAfter active active'
