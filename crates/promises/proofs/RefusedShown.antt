@@ -38,6 +38,7 @@ use Rattle.recovery.specs.declared.Recovery.{Recovery}
 use Rattle.recovery.specs.declared.RecoveryInfo.{RecoveryInfo}
 use Rattle.recovery.specs.declared.Recovery.the-variants as Recoveries
 use Rattle.recovery.specs.Told.{recoveryAnswer, recoveryNumber, recoveryByte}
+use Rattle.lambspool.proofs.RefusalText.{snapshot-text, log-text, file-text}
 use Rattle.lambspool.specs.Asked.{cacheAsked, writeAsked, encodeAsked}
 use Rattle.lambspool.specs.Said.{snapshotSaid, storeSaid, cacheSaid, bytesSaid}
 use Rattle.lambspool.specs.declared.Snapshot.{Snapshot as SnapshotSaid}
@@ -260,6 +261,9 @@ refused-calls =
       encode-batch-untouched = λ config sequence operations coordinates captions out why after m. untouched (encodeCall Batch config sequence operations coordinates captions out) why out after (m .result-is) (m .output-is);
       host-delete-untouched = host-delete-untouched;
       door-tells = door-tells;
+      snapshot-text = snapshot-text;
+      log-text = log-text;
+      file-text = file-text;
       door-recover-zeros = door-recover-zeros;
       door-read-zeros = door-read-zeros;
       door-cache-zeros = λ bytes d m ef seed metric crc sequence count starts r after k.

@@ -1,4 +1,4 @@
--- What `specs/Standards.antt` says, from the laws of `coordinates` and `utf8`.
+-- What `specs/Standards.antt` says, from the laws of `coordinates`, `utf8` and `crc32`.
 use Prim.Native.Nat.{ℕ}
 use mathlib.Core.Path.{_≡_, refl, sym, ap₂}
 use mathlib.Core.Bool.{Bool, _&&_, cond}
@@ -6,6 +6,7 @@ use mathlib.Core.List.{List, [], _∷_, map}
 use lib.Ieee.Scale.{finite}
 use Rattle.refusal.specs.Refusal.{refused, passes}
 use Rattle.refusal.specs.declared.Refusal.the-variants.{NotFinite, VectorAllZero}
+use Rattle.crc32.proofs.Known.{crc-check}
 use Rattle.utf8.proofs.Laws as Utf8Laws
 use Rattle.coordinates.specs.Coordinates.{everyFinite, everyZero, vectorOf}
 use Rattle.coordinates.proofs.IeeeBits.{finite-bits, zero-bits}
@@ -34,4 +35,5 @@ standards =
       vector-by-values = vector-by-values;
       front-longest = λ s. record { inside = Utf8Laws.front-le s; octets = Utf8Laws.front-octets s; longest = Utf8Laws.front-longest s };
       utf8-octets = λ s. record { holds = Utf8Laws.utf8-octets s; if-so = Utf8Laws.octets-utf8 };
+      crc-check = crc-check;
     }

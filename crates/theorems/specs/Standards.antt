@@ -1,5 +1,5 @@
 -- The tests behind 12, 13 and 15 are the standards' own: IEEE 754's, of the values that bit patterns stand for (the kit's `lib.Ieee`), and
--- RFC 3629's, by its grammar (utf8/Utf8). The contracts cite the tests by bits and bytes.
+-- RFC 3629's, by its grammar (utf8/Utf8). The contracts cite the tests by bits and bytes. And the CRC has its published check value.
 use Prim.Native.Nat.{ℕ, _≤_}
 use mathlib.Core.Path.{_≡_}
 use mathlib.Core.Bool.{Bool, true, _&&_, cond}
@@ -9,6 +9,7 @@ use lib.Ieee.{Float, binary32, ofBits, eq}
 use lib.Ieee.Scale.{finite}
 use Rattle.refusal.specs.Refusal.{Result, refused, passes}
 use Rattle.refusal.specs.declared.Refusal.the-variants.{NotFinite, VectorAllZero}
+use Rattle.crc32.specs.Crc.{crcOf}
 use Rattle.utf8.specs.Utf8.{Octets, validFront, isUtf8}
 use Rattle.coordinates.specs.Coordinates.{finiteBits, zeroBits, vectorOf}
 
@@ -50,3 +51,5 @@ pub record Standards : Type 0 where
   -- bytes
   pub front-longest : (s : List ℕ) → LongestFront s (validFront s)
   pub utf8-octets : (s : List ℕ) → Decides (isUtf8 s) (Octets s)
+  -- of the digits 1 to 9
+  pub crc-check : crcOf (49 ∷ 50 ∷ 51 ∷ 52 ∷ 53 ∷ 54 ∷ 55 ∷ 56 ∷ 57 ∷ []) ≡ 0xCBF43926
