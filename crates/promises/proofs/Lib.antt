@@ -1,6 +1,8 @@
 pub mod OneAnswers
 pub mod LeavesKept
 pub mod FieldsPast
+pub mod NumbersKept
+pub mod StandardsKept
 pub mod StoreKept
 pub mod PlayoutKept
 pub mod HelpersKept

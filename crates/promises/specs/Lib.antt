@@ -1,6 +1,8 @@
 pub mod OneAnswer
 pub mod Leaves
 pub mod PastTheEnd
+pub mod Numbered
+pub mod ByStandards
 pub mod Store
 pub mod Playout
 pub mod Helpers

@@ -42,4 +42,5 @@ pub mod DeleteBytes
 pub mod DeleteRecovered
 pub mod WriterInWords
 pub mod SumsComputed
+pub mod StandardsMet
 pub mod Proved

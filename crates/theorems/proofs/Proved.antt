@@ -26,6 +26,7 @@ use Rattle.theorems.proofs.ReadAlike as ReadAlike
 use Rattle.theorems.proofs.RecoverAlike as RecoverAlike
 use Rattle.theorems.proofs.TablesAlike as TablesAlike
 use Rattle.theorems.proofs.SumsComputed as SumsComputed
+use Rattle.theorems.proofs.StandardsMet as StandardsMet
 
 pub frame-of : (shape : Shape) (c : Config) (sequence : ℕ) (words coords captions : List ℕ) (room : ℕ) (bs : List ℕ)
     → Every (λ x. x < 2 ^ 64) words → sequence < 256 ^ 8 → encode shape c sequence words coords captions room ≡ answer bs
@@ -94,4 +95,5 @@ theorems =
             rewritten = ReadAlike.rewritten;
           };
       sums = SumsComputed.sums;
+      standards = StandardsMet.standards;
     }

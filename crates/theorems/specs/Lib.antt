@@ -17,4 +17,5 @@ pub mod AnyFile
 pub mod AcceptedFile
 pub mod DeletedCaptions
 pub mod Sums
+pub mod Standards
 pub mod Theorems

@@ -10,6 +10,7 @@ use Rattle.theorems.specs.FrameReadBack.{FrameReadBack}
 use Rattle.theorems.specs.DeleteAppended.{DeleteAppended}
 use Rattle.theorems.specs.DeletedCaptions.{DeletedCaptions}
 use Rattle.theorems.specs.Sums.{Sums}
+use Rattle.theorems.specs.Standards.{Standards}
 
 pub record Theorems : Type 0 where
   pub demand3 : Demand3
@@ -23,3 +24,4 @@ pub record Theorems : Type 0 where
   pub delete-appended : DeleteAppended
   pub deleted-captions : DeletedCaptions
   pub sums : Sums
+  pub standards : Standards
