@@ -83,6 +83,7 @@ theorems =
             up-to-a-tail = λ c snapshot log fs k b. RawLog.up-to-a-tail c snapshot log b fs k;
             up-to-a-refusal = λ c snapshot log fs why k b. RawLog.up-to-a-refusal c snapshot log b fs why k;
             log-is-its-frames = RawLog.log-is-its-frames;
+            refused-is-its-frames = RawLog.refused-is-its-frames;
             layout-is-read = RawLog.layout-is-read;
             layouts-are-read = RawLog.layouts-are-read;
           };

@@ -6,23 +6,28 @@ use native.Mathlib.Omega.{arith}
 use lib.ListN.{length, take, drop, take-append-drop, length-append, length-drop}
 use Rattle.fields.specs.Fields.{part, Bytes}
 use Rattle.config.specs.declared.Config.{Config}
+use Rattle.refusal.specs.Refusal.{answer}
 use Rattle.refusal.specs.declared.Refusal.{Refusal}
+use Rattle.refusal.proofs.Results.{answer-injective}
 use Rattle.rows.specs.declared.Row.{Row}
 use Rattle.meaning.specs.Every.{Every}
 use Rattle.meaning.specs.Replay.{Frame, Frames, End, tail, bad}
+use Rattle.meaning.specs.Snapshot.{Snapshot, readSnapshot}
 use Rattle.meaning.specs.Log.{found, frameAt, join, framesAt, framesOf}
-use Rattle.meaning.specs.Recovery.{Recovered, recovered, boundsFor, recover}
+use Rattle.meaning.specs.Recovery.{Recovered, recovered, refusedLog, boundsFor, recover}
 use Rattle.meaning.specs.Records.{Record, rowKind}
 use Rattle.meaning.proofs.FrameRead.{frame-too-little}
 use Rattle.meaning.proofs.FramesAt.{frames-of, frames-at-tail, frames-at-found, endedAt}
 use Rattle.theorems.specs.FrameRows.{Follows}
 use Rattle.theorems.specs.FrameLists.{Consecutive, Numbered, byteAfter}
-use Rattle.theorems.specs.LogLaidOut.{layoutOf, readAs, frameShown, FrameFits, layoutsOf, StandFrom, FramesFit, framesShown, FrontLaidOut, LogLaidOut}
+use Rattle.theorems.specs.LogLaidOut.{layoutOf, readAs, frameShown, FrameFits, layoutsOf, StandFrom, FramesFit, framesShown, FrontLaidOut, LogLaidOut, BeforeRefusal}
+use Rattle.theorems.specs.RefusedAt.{RefusedAt, tooLong, inFrame}
 use Rattle.theorems.proofs.Here.{after-here, parts-joined}
 use Rattle.theorems.proofs.LogLaws.{first-frame, after-frame, log-numbered}
 use Rattle.theorems.proofs.LogCut.{cut-after, end-after}
 use Rattle.theorems.proofs.Recovering.{accepted, frames-to-tail, replays-frames}
 use Rattle.theorems.proofs.Counted.{replay-counts}
+use Rattle.theorems.proofs.RefusedThere.{refused-at}
 use Rattle.theorems.proofs.FrameBack.{frame-found}
 use Rattle.theorems.proofs.RawFrame.{framed, frame-is-its-layout}
 
@@ -113,6 +118,29 @@ log-is-its-frames lent snapshot log r b e =
       tail-is = length-drop (r .keep) log;
       counted = counts .together ∙ ap (λ (c : Config). length (framesOf c log .frames)) (sym (a .same-config));
     }
+
+-- before a refusal stand the frames of a cut, or nothing
+pub refused-is-its-frames : (lent : ℕ) (snapshot log : List ℕ) (S : Snapshot) (why : Refusal) (at : ℕ) → Bytes log → readSnapshot lent snapshot ≡ answer S
+    → recover lent snapshot log ≡ refusedLog why at → BeforeRefusal (S .config) snapshot log at
+refused-is-its-frames lent snapshot log S why at b reads e = go (refused-at lent snapshot log why at e)
+  where
+    go : RefusedAt lent snapshot log why at → BeforeRefusal (S .config) snapshot log at
+    go (tooLong long is zero) =
+        record {
+          frames = [];
+          behind = framesOf (S .config) log .frames;
+          are-read = refl;
+          front = subst (FrontLaidOut (S .config) snapshot log []) (sym zero) (front-is-its-frames (S .config) snapshot log b [] (framesOf (S .config) log .frames) (framesOf (S .config) log .ended) refl);
+        }
+    go (inFrame short cut here there) =
+        let same : cut .accepted .config ≡ S .config = ap (λ (x : Snapshot). x .config) (answer-injective (cut .accepted) S (sym (cut .accepts) ∙ reads)) in
+        let frames-are : framesOf (S .config) log ≡ record { frames = cut .front ++ cut .behind; ended = cut .end } = ap (λ (c : Config). framesOf c log) (sym same) ∙ cut .frames in
+        record {
+          frames = cut .front;
+          behind = cut .behind;
+          are-read = ap (λ (x : Frames Row). x .frames) frames-are;
+          front = subst (FrontLaidOut (S .config) snapshot log (cut .front)) here (front-is-its-frames (S .config) snapshot log b (cut .front) (cut .behind) (cut .end) frames-are);
+        }
 
 -- ---- the other way
 pub layout-is-read : (c : Config) (log : List ℕ) (previous : ℕ) (f : Frame Record) (rest : List ℕ) → FrameFits c f → Follows previous (f .sequence)

@@ -8,13 +8,15 @@ use lib.ListN.{length, take, drop}
 use Rattle.fields.specs.Fields.{part, Bytes}
 use Rattle.config.specs.Limits.{minFrame, maxFrame}
 use Rattle.config.specs.declared.Config.{Config}
+use Rattle.refusal.specs.Refusal.{answer}
 use Rattle.refusal.specs.declared.Refusal.{Refusal}
 use Rattle.rows.specs.declared.Row.{Row}
 use Rattle.meaning.specs.Every.{Every}
 use Rattle.meaning.specs.Replay.{Operation, put, remove, Frame, End, tail, bad}
 use Rattle.meaning.specs.Records.{Record, seen}
+use Rattle.meaning.specs.Snapshot.{Snapshot, readSnapshot}
 use Rattle.meaning.specs.Log.{found, frameAt, framesOf}
-use Rattle.meaning.specs.Recovery.{Recovered, recovered, recover, tailLength}
+use Rattle.meaning.specs.Recovery.{Recovered, recovered, refusedLog, recover, tailLength}
 use Rattle.theorems.specs.Storable.{Fit}
 use Rattle.theorems.specs.FrameLists.{Numbered, byteAfter}
 use Rattle.theorems.specs.FrameRows.{payloadOf, frameOf, frameIn, CountHolds, Follows, carryOperation}
@@ -97,6 +99,13 @@ pub record LogLaidOut (snapshot log : List ℕ) (r : Recovered) : Type 0 where
   pub tail-is : length (drop (r .keep) log) ≡ tailLength log r
   pub counted : r .state .replayed + r .state .skipped ≡ length (framesOf (r .config) log .frames)
 
+-- a log that was refused at this byte: all before it are frames that were read
+pub record BeforeRefusal (c : Config) (snapshot log : List ℕ) (at : ℕ) : Type 0 where
+  pub frames : List (Frame Row)
+  pub behind : List (Frame Row)
+  pub are-read : framesOf c log .frames ≡ frames ++ behind
+  pub front : FrontLaidOut c snapshot log frames at
+
 -- whatever the snapshot: what a log's frames put lies in the log
 pub record LaidOutLogs : Type 0 where
   pub frame-is-its-layout : (c : Config) (snapshot log : List ℕ) (previous at : ℕ) (f : Frame Row) (next : ℕ) → Bytes log
@@ -111,6 +120,8 @@ pub record LaidOutLogs : Type 0 where
       → framesOf c log ≡ record { frames = fs; ended = bad why k } → FrontLaidOut c snapshot log fs k
   pub log-is-its-frames : (lent : ℕ) (snapshot log : List ℕ) (r : Recovered) → Bytes log
       → recover lent snapshot log ≡ recovered r → LogLaidOut snapshot log r
+  pub refused-is-its-frames : (lent : ℕ) (snapshot log : List ℕ) (S : Snapshot) (why : Refusal) (at : ℕ) → Bytes log → readSnapshot lent snapshot ≡ answer S
+      → recover lent snapshot log ≡ refusedLog why at → BeforeRefusal (S .config) snapshot log at
   -- the other way: a layout is read as its frame wherever it stands behind one that it can follow; and so are layouts from a log's first
   -- byte on, with fewer than 8 bytes behind them
   pub layout-is-read : (c : Config) (log : List ℕ) (previous : ℕ) (f : Frame Record) (rest : List ℕ) → FrameFits c f → Follows previous (f .sequence)
