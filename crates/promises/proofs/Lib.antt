@@ -17,6 +17,7 @@ pub mod DoorKept
 pub mod RefusedShown
 pub mod Rewritten
 pub mod TakenOnceShown
+pub mod LogsLaidOut
 pub mod CaptionsShown
 pub mod StillsGone
 pub mod WrongShutOut

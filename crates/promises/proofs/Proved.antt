@@ -18,6 +18,7 @@ use Rattle.promises.proofs.RecoverShown.{recover-calls}
 use Rattle.promises.proofs.RefusedShown.{refused-calls}
 use Rattle.promises.proofs.Rewritten.{written-again}
 use Rattle.promises.proofs.TakenOnceShown.{recovered-once}
+use Rattle.promises.proofs.LogsLaidOut.{log-laid-out}
 use Rattle.promises.proofs.CaptionsShown.{captions-of-deleted}
 use Rattle.promises.proofs.StillsGone.{still-gone}
 use Rattle.promises.proofs.WrongShutOut.{wrong-recoveries}
@@ -69,6 +70,7 @@ promises =
       encoded-frame = encoded-frame;
       recover-write-recover = written-again;
       recovered-once = recovered-once;
+      log-laid-out = log-laid-out;
       captions-of-deleted = captions-of-deleted;
       still-gone = still-gone;
       wrong-recoveries = wrong-recoveries;

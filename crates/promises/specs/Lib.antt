@@ -17,6 +17,7 @@ pub mod Door
 pub mod Refused
 pub mod RecoverWriteRecover
 pub mod RecoveredOnce
+pub mod LogLaidOut
 pub mod CaptionsOfDeleted
 pub mod StillGone
 pub mod WrongRecoveries

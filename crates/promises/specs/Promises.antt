@@ -17,6 +17,7 @@ use Rattle.promises.specs.EncodedFrame.{EncodedFrame}
 use Rattle.promises.specs.Refused.{Refused}
 use Rattle.promises.specs.RecoverWriteRecover.{RecoverWriteRecover}
 use Rattle.promises.specs.RecoveredOnce.{RecoveredOnce}
+use Rattle.promises.specs.LogLaidOut.{LogLaidOut}
 use Rattle.promises.specs.CaptionsOfDeleted.{CaptionsOfDeleted}
 use Rattle.promises.specs.StillGone.{StillGone}
 use Rattle.promises.specs.WrongRecoveries.{WrongRecoveries}
@@ -68,9 +69,10 @@ pub record Promises : Type 0 where
   pub read-and-written : ReadAndWritten
   pub delete-frame : DeleteFrame
   pub encoded-frame : EncodedFrame
-  -- recovery: demand 3, what is taken, what does not count, what is gone
+  -- recovery: demand 3, what is taken, the log's bytes, what does not count, what is gone
   pub recover-write-recover : RecoverWriteRecover
   pub recovered-once : RecoveredOnce
+  pub log-laid-out : LogLaidOut
   pub captions-of-deleted : CaptionsOfDeleted
   pub still-gone : StillGone
   -- what document 01 asks a contract to shut out

@@ -21,6 +21,7 @@ use Rattle.snapshot.specs.declared.ReadSnapshot.{ReadSnapshot}
 use Rattle.snapshot.specs.Told.{headerTold, readTold}
 use Rattle.views.specs.declared.Found.{Found}
 use Rattle.views.specs.Told.{foundTold, viewed}
+use Rattle.log.specs.declared.ReadFrame.{ReadFrame}
 use Rattle.log.specs.Told.{frameTold}
 use Rattle.snapshot.proofs.read_header.Reads as ReadHeaderCall
 use Rattle.snapshot.proofs.read_snapshot.Reads as ReadSnapshotCall
@@ -139,7 +140,11 @@ pub record EncoderCalls : Type 0 where
       → OneEach (EncodeBatchMeets config sequence operations coordinates captions out)
 
 -- ---- log
+-- frame_at(config, log, previous, at)
+pub record FrameAtMeets (config : Config) (log : List ℕ) (previous at : ℕ) (r : ReadFrame) : Type 0 where
+  pub result-is : r ≡ frameTold (frameCall config log previous at)
+
 pub record LogCalls : Type 0 where
-  -- frame_at(config, log, previous, at)
-  pub frame-at-one-answer : (κs : _) (config : Config) (log : RefT (List ℕ)) (previous at : ℕ)
-      → Gives (frameTold (frameCall config (now log) previous at)) (λ r. FrameAtCall.Learnt κs (config, (log, (previous, (at, tt)))) r (config, (log, (previous, (at, tt)))))
+  pub frame-at-contract : (κs : _) (config : Config) (log : RefT (List ℕ)) (previous at : ℕ) (r : ReadFrame)
+      → FrameAtCall.Learnt κs (config, (log, (previous, (at, tt)))) r (config, (log, (previous, (at, tt)))) → FrameAtMeets config (now log) previous at r
+  pub frame-at-one-answer : (config : Config) (log : List ℕ) (previous at : ℕ) → One (FrameAtMeets config log previous at)
