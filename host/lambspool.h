@@ -233,10 +233,7 @@ lambspool_recovery *lambspool_recover(lambspool_recovery *result, const void *sn
  * Accepted: source and at are 0. Refused: both tables are all zeros, and every field but number, source and at. The log's length (20)
  * is tested first, then the snapshot (1 to 19), then the log (4, 12 to 16, 19, 21 to 29). */
 
-/* ---- looking at what was read: the tables, and the very bytes that were handed to the reading
- *
- * `count` is the `records` that the reading told, here and for the writers and the lines of nodes. A larger one is refused by 30 only
- * past the rows lent: up to there the zeros behind the records pass for live records with ID 0, which a lookup finds. */
+/* ---- looking at what was read: the tables, and the very bytes that were handed to the reading */
 
 typedef struct lambspool_found {
     uint32_t number;
@@ -244,8 +241,11 @@ typedef struct lambspool_found {
 } lambspool_found;
 
 lambspool_found lambspool_lookup(const uint64_t *rows, size_t row_words, size_t count, uint64_t id);
-/* The lowest live node of an ID below `count`; LAMBSPOOL_NO_NODE if there is none.
- * Refused by 30 if `count` is over row_words / 2 or over 100,000, as the views and the writers are. */
+/* The lowest live node of an ID below `count`; LAMBSPOOL_NO_NODE if there is none. Refused by 30 if `count` is over row_words / 2 or
+ * over 100,000, as the views and the writers are.
+ *
+ * `count` is the `records` that the reading told, here and for the views, the writers and the lines of nodes. With a larger one that
+ * is not refused, the zeros behind the records pass for live records with ID 0: a lookup of 0 finds the first of them. */
 
 typedef struct lambspool_part {
     uint32_t number;
