@@ -96,7 +96,7 @@ static void example(void)
     const uint64_t hi[2] = {7, LAMBSPOOL_PUT(2, 0)}, ho[2] = {7, LAMBSPOOL_PUT(2, 2)};
     const uint64_t more[6] = {8, LAMBSPOOL_PUT(2, 0), 9, LAMBSPOOL_PUT(0, 4), 8, LAMBSPOOL_DELETE};
     const uint64_t gone[2] = {9, LAMBSPOOL_DELETE};
-    static const size_t lengths[4] = {39, 39, 70, 29};
+    static const size_t lengths[4] = {39, 39, 70, LAMBSPOOL_DELETE_FRAME};
     bool good = true;
     memcpy(snapshot, head, 52);
     snapshot_length = closed(snapshot, 52);
@@ -128,6 +128,43 @@ static void example(void)
         && lambspool_encode_batch(1, 1, 200, 42, 0, 1, NULL, 0, NULL, 0, NULL, 0, NULL, 0).number == LAMBSPOOL_WRONG_M
         && lambspool_encode_batch(1, 16, 15, 42, 0, 1, NULL, 0, NULL, 0, NULL, 0, NULL, 0).number == LAMBSPOOL_WRONG_EF;
     check("what is asked of an encoder wrongly", good);
+}
+
+/* A length or an offset that has no place in a put's word is refused; another put is never made of it. */
+static void puts_that_do_not_fit(void)
+{
+    static const uint32_t one[1] = {0x3f800000};
+    static const char captions[] = "HiHoHiHoHiHo";
+    const uint8_t eight = 8;
+    const size_t two = 2, beyond = ((size_t)1 << 48) + 2;
+    const int least = -32760;
+    int asked = 0;
+    const struct {
+        uint64_t word;
+        uint32_t number;
+    } cases[] = {
+        {LAMBSPOOL_PUT(eight, two), 0},
+        {LAMBSPOOL_PUT(eight, 4), 0},
+        {LAMBSPOOL_PUT(eight, 5), LAMBSPOOL_REQUEST_MALFORMED},
+        {LAMBSPOOL_PUT(eight, beyond), LAMBSPOOL_REQUEST_MALFORMED},
+        {LAMBSPOOL_PUT(eight, SIZE_MAX), LAMBSPOOL_REQUEST_MALFORMED},
+        {LAMBSPOOL_PUT(eight, -1), LAMBSPOOL_REQUEST_MALFORMED},
+        {LAMBSPOOL_PUT(0, beyond - 2), LAMBSPOOL_REQUEST_MALFORMED},
+        {LAMBSPOOL_PUT(least, two), LAMBSPOOL_CAPTION_TOO_LONG},
+        {LAMBSPOOL_PUT(-1, -1), LAMBSPOOL_CAPTION_TOO_LONG},
+        {LAMBSPOOL_PUT(32776, two), LAMBSPOOL_CAPTION_TOO_LONG},
+        {LAMBSPOOL_PUT(beyond, two), LAMBSPOOL_CAPTION_TOO_LONG},
+        {LAMBSPOOL_PUT(LAMBSPOOL_MAX_CAPTION + 1, two), LAMBSPOOL_CAPTION_TOO_LONG},
+    };
+    bool good = true;
+    for (size_t i = 0; i < sizeof cases / sizeof cases[0]; i++) {
+        const uint64_t put[2] = {7, cases[i].word};
+        lambspool_bytes b = encoded(false, 1, put, 2, one, 1, captions, filled(3, 64), 64);
+        good = good && b.number == cases[i].number && b.length == (b.number == 0 ? 45u : 0);
+    }
+    check("puts that have no place in a word are refused", good);
+    good = LAMBSPOOL_PUT(asked++, 0) == (uint64_t)1 << 63 && LAMBSPOOL_PUT(2, asked++) == ((uint64_t)1 << 63 | (uint64_t)2 << 48 | 1) && asked == 2;
+    check("a put's length and offset are evaluated once", good);
 }
 
 /* ---- recovery */
@@ -230,6 +267,10 @@ static void looks(void)
     good = good && lambspool_lookup(l.rows, l.row_words, 5, 7).number == LAMBSPOOL_NO_SUCH_NODE && lambspool_lookup(l.rows, l.row_words, 5, 7).node == LAMBSPOOL_NO_NODE;
     good = good && lambspool_lookup(NULL, 0, 0, 7).node == LAMBSPOOL_NO_NODE;
     check("lookup", good);
+    r = recovered(&l, ends[3] + 3, 8);
+    good = lambspool_lookup(l.rows, l.row_words, r.records, 0).node == LAMBSPOOL_NO_NODE && lambspool_lookup(l.rows, l.row_words, r.records + 1, 0).node == r.records;
+    check("a count above the records passes zeros for ID 0, as the header says", good);
+    r = recovered(&l, ends[3] + 3, 4);
 
     good = lambspool_caption(&p, l.snapshot, l.snapshot_length, l.log, l.log_length, l.rows, l.row_words, r.records, 1, 1) == &p && p.number == 0
         && p.source == LAMBSPOOL_LOG && p.length == 2 && memcmp(l.log + p.at, "Ho", 2) == 0;
@@ -271,7 +312,7 @@ static void written_again(void)
     lambspool_recovery r = recovered(&l, ends[3] + 3, 4);
     bool good = true;
     for (int compacted = 0; compacted < 2; compacted++) {
-        size_t n = compacted ? 56 + 19 + 17 : 56 + r.size;
+        size_t n = LAMBSPOOL_SNAPSHOT_AROUND + (compacted ? 19 + 17 : r.size);
         for (size_t room = 0; room < n + 3; room++) {
             uint8_t *out = filled(4, room);
             lambspool_bytes b = (compacted ? lambspool_write_compacted_snapshot : lambspool_write_snapshot)(r.dimensions, r.m, r.ef_construction, r.seed, r.metric,
@@ -285,7 +326,7 @@ static void written_again(void)
                 uint64_t *rows = filled(5, 64);
                 uint32_t active[4];
                 good = good && lambspool_read_snapshot(&s, out, n, rows, 8, active, 4) == &s && s.number == 0 && s.sequence == 3 && s.active == 2 && s.metric == 0
-                    && s.dimensions == 1 && s.m == 16 && s.ef_construction == 200 && s.seed == 42 && s.records == (compacted ? 2u : 4u) && s.size == n - 56
+                    && s.dimensions == 1 && s.m == 16 && s.ef_construction == 200 && s.seed == 42 && s.records == (compacted ? 2u : 4u) && s.size == n - LAMBSPOOL_SNAPSHOT_AROUND
                     && s.crc == lambspool_crc32_of(out, n - 4) && rows[compacted ? 0 : 2] == 7 && active[0] == (compacted ? 0u : 1u) && active[2] == 0;
             }
         }
@@ -293,6 +334,30 @@ static void written_again(void)
     good = good && lambspool_write_snapshot(1, 16, 200, 42, 3, 1, NULL, 0, 0, NULL, 0, NULL, 0, NULL, 0).number == LAMBSPOOL_WRONG_METRIC
         && lambspool_write_snapshot(1, 16, 200, 42, 0, 1, NULL, 0, 1, NULL, 0, NULL, 0, NULL, 0).number == LAMBSPOOL_NO_SUCH_NODE;
     check("snapshots written, with every room, and read again", good);
+}
+
+/* The header's warning: a sequence that is too high has the next recovery skip frames whose changes are not inside. */
+static void wrong_sequence(void)
+{
+    struct lent l;
+    lambspool_recovery r = recovered(&l, ends[1], 4); /* 7 live Hi, sequence 1 */
+    uint8_t out[LAMBSPOOL_SNAPSHOT_AROUND + 19];
+    bool good = true;
+    for (uint64_t sequence = 1; sequence < 5; sequence++) {
+        uint64_t rows[16];
+        uint32_t active[8];
+        lambspool_recovery again;
+        lambspool_bytes b = lambspool_write_snapshot(r.dimensions, r.m, r.ef_construction, r.seed, r.metric, sequence, l.rows, l.row_words, r.records,
+            l.snapshot, l.snapshot_length, l.log, l.log_length, out, sizeof out);
+        lambspool_recover(&again, out, b.length, store_log, log_length, rows, 16, active, 8);
+        good = good && b.number == 0 && b.length == sizeof out;
+        if (sequence == 1)
+            good = good && again.number == 0 && again.records == 4 && again.skipped == 1 && again.replayed == 3;
+        else /* what frame 2 puts is missing; frame 4 deletes what frame 3 puts */
+            good = good && (sequence == 3 ? again.number == LAMBSPOOL_INACTIVE_DELETE
+                : again.number == 0 && again.skipped == sequence && again.records == (sequence == 2 ? 3u : 1u));
+    }
+    check("a wrong sequence is not refused: frames are skipped, as the header says", good);
 }
 
 static void lines(void)
@@ -428,7 +493,7 @@ static void longs(void)
     static const uint32_t one[1] = {0x3f800000};
     static char caption[LAMBSPOOL_MAX_CAPTION];
     const uint64_t put[2] = {7, LAMBSPOOL_PUT(LAMBSPOOL_MAX_CAPTION, 0)}, more[2] = {7, LAMBSPOOL_PUT(LAMBSPOOL_MAX_CAPTION + 100000, 0)};
-    size_t n = 37 + LAMBSPOOL_MAX_CAPTION, room = 56 + 17 + LAMBSPOOL_MAX_CAPTION;
+    size_t n = 37 + LAMBSPOOL_MAX_CAPTION, room = LAMBSPOOL_SNAPSHOT_AROUND + 17 + LAMBSPOOL_MAX_CAPTION;
     uint64_t *rows = filled(2, 32);
     uint32_t *active = filled(3, 8);
     uint8_t *bytes = copied(0, snapshot, snapshot_length), *out, *line;
@@ -457,11 +522,13 @@ static void every_call(void)
         behind = back;
         crcs();
         example();
+        puts_that_do_not_fit();
         recoveries();
         wrong_bytes();
         looks();
         lines_of_nodes();
         written_again();
+        wrong_sequence();
         lines();
         caches();
         wrong_caches();
