@@ -8,10 +8,8 @@ ghost use Prim.Native.Nat.{_*_, _≤_};
 ghost use lib.ListN.{length};
 ghost use Rattle.listing_text.specs.Files.{listingFileLimit, listingRows, longestLine};
 use libc::STDOUT_FILENO;
-use listing_text::Heading;
 use listing_text::Stopped;
 use recovery::Recovery;
-use recovery::RecoveryInfo;
 use refusal::Written;
 use rows::Node;
 
@@ -78,33 +76,21 @@ fn list_store<'a>(
     requires { ⌜ length (now active) ≡ listingRows ⌝ }
     requires { ⌜ longestLine ≤ length (now line) ⌝ }
 {
-    match recovery::recover(snapshot, log, rows, active) {
-        Recovery::Recovered(info) => list_state(info, snapshot, log, rows, line),
-        Recovery::RefusedSnapshot(why) => refuse(Stopped::Snapshot(why), line),
-        Recovery::RefusedLog(why, at) => refuse(Stopped::Log(why, at), line),
-    }
-}
-
-fn list_state<'a>(
-    info: RecoveryInfo,
-    snapshot: &'a [u8],
-    log: &'a [u8],
-    rows: &[u64],
-    line: &mut [u8],
-) {
-    let config = info.config;
-    let heading = Heading {
-        sequence: info.sequence,
-        records: info.records,
-        active: info.active,
-        replayed: info.replayed,
-        skipped: info.skipped,
-        keep: info.keep,
-        tail: info.tail,
-    };
-    let written = listing_text::first_line(heading, line);
+    let answer = recovery::recover(snapshot, log, rows, active);
+    let written = listing_text::answer_line(answer, line);
     show(written, line);
-    list_nodes(snapshot, log, rows, info.records, config.dimensions, line);
+    match answer {
+        Recovery::Recovered(info) => list_nodes(
+            snapshot,
+            log,
+            rows,
+            info.records,
+            info.config.dimensions,
+            line,
+        ),
+        Recovery::RefusedSnapshot(_) => {}
+        Recovery::RefusedLog(_, _) => {}
+    }
 }
 
 // No more than the rows lent: beyond them every node is refused by 30.
