@@ -1,5 +1,6 @@
--- An answer that is an enum in numbers: document 01's number, 0 where nothing is refused, and the values of each case. Here are those that
--- neither `lambspool/Said`, for the C entries, nor `PastTheEnd` has, and what the calls answer by them.
+-- An answer that is an enum in numbers: document 01's number, 0 where nothing is refused, and the values of each case. What the C entries
+-- hand on is said so in `lambspool/Said`, a field in `PastTheEnd`; here are a test, a metric, a header and a frame, with what the calls
+-- answer by them.
 use Prim.Native.Nat.{ℕ}
 use mathlib.Core.Path.{_≡_}
 use mathlib.Core.Bool.{Bool, cond}
