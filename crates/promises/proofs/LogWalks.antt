@@ -29,7 +29,11 @@ use Rattle.log.specs.Stored.{IsFrame}
 use Rattle.log.specs.Told.{operationThen, operationRead, operationTold, frameFound, frameTold}
 use Rattle.replay.proofs.FrameFacts.{Lies, lies, batch-stored}
 use Rattle.recovery.proofs.RunLaws.{told-whole}
-use Rattle.promises.specs.LogWalked.{operationsWalked, framesWalked, behind, Answers, behindAll, operationIn, FrameWalked, LogWalked}
+use Rattle.lambspool.specs.declared.Frame as Door
+use Rattle.lambspool.specs.declared.Operation as DoorOperation
+use Rattle.lambspool.specs.Asked.{settingsOf, frameAsked, operationOf, operationAsked}
+use Rattle.lambspool.specs.Said.{kindNumber, frameSaid, operationSaid}
+use Rattle.promises.specs.LogWalked.{operationsWalked, framesWalked, behind, Answers, behindAll, operationIn, FrameWalked, SaidAnswers, behindAllSaid, withoutNext, saidOf, SaidWalked, LogWalked}
 
 -- ---- one operation, where it is known to stand
 module _ (c : Config) (log : List ℕ) (valid : validate c ≡ answer tt) (end : ℕ) (inside : end ≤ length log) where
@@ -194,5 +198,90 @@ frame-walked c log previous at frame e rs many a =
     let t = all-told c log (frame .shape) (operationsEnd (frame .next)) rs (firstOperation (frame .shape) (frame .start)) _ here a in
     record { meant = f; there = read .there; operations-are = t .operations-are; ends-there = t .ends-there }
 
+-- ---- the same of what C is said
+module _ (d m ef seed metric : ℕ) (log : List ℕ) (c : Config) (known : settingsOf d m ef seed metric ≡ answer c) where
+  -- an entry is asked by the kind's number
+  asked : (shape : Shape) (end at : ℕ) → operationAsked d m ef seed metric log (kindNumber shape) end at ≡ operationCall c log shape end at
+  asked shape end at = go-on (settingsOf d m ef seed metric) _ c known ∙ by shape
+    where
+      by : (s : Shape) → operationOf c log (kindNumber s) end at ≡ operationCall c log s end at
+      by Single = refl
+      by Batch = refl
+
+  pub record SaidThis (r : DoorOperation.Operation) (this : Meant.ReadOperation) : Type 0 where
+    pub operation-is : withoutNext r ≡ saidOf d (this .operation)
+    pub next-is : r .next ≡ this .next
+
+  said-this : (r : DoorOperation.Operation) (this : Meant.ReadOperation) → r ≡ operationSaid d (operationRead this) → SaidThis r this
+  said-this r this e =
+      subst (λ (x : DoorOperation.Operation). SaidThis x this) (sym e) (record { operation-is = same (this .next) (this .operation); next-is = then (this .next) (this .operation) })
+    where
+      same : (next : ℕ) (o : Operation Row) → withoutNext (operationSaid d (operationThen next o)) ≡ saidOf d o
+      same next (put row) = refl
+      same next (remove id) = refl
+
+      then : (next : ℕ) (o : Operation Row) → operationSaid d (operationThen next o) .next ≡ next
+      then next (put row) = refl
+      then next (remove id) = refl
+
+  pub record AllSaid (at : ℕ) (rs : List DoorOperation.Operation) (x : ReadOperations) : Type 0 where
+    pub operations-are : map withoutNext rs ≡ map (saidOf d) (x .operations)
+    pub ends-there : behindAllSaid at rs ≡ x .next
+
+  all-said : (shape : Shape) (end : ℕ) (rs : List DoorOperation.Operation) (at : ℕ) (x : ReadOperations) → operationsWalked (length rs) c log shape end at ≡ answer x
+      → SaidAnswers d m ef seed metric log (kindNumber shape) end at rs → AllSaid at rs x
+  unfolding operationsWalked
+  all-said shape end [] at x e a =
+      let is = answer-injective (record { operations = []; next = at }) x e in
+      subst (AllSaid at []) is (record { operations-are = refl; ends-there = refl })
+  all-said shape end (r ∷ rs) at x e a =
+      let s1 = passed (operationCall c log shape end at) _ x e in
+      let s2 = passed (operationsWalked (length rs) c log shape end (s1 .value .next)) _ x (s1 .then) in
+      let is = answer-injective (record { operations = s1 .value .operation ∷ s2 .value .operations; next = s2 .value .next }) x (s2 .then) in
+      let t = said-this r (s1 .value) (a .0 ∙ ap (λ (y : Result Meant.ReadOperation). operationSaid d (operationTold y)) (asked shape end at ∙ s1 .first)) in
+      let more : SaidAnswers d m ef seed metric log (kindNumber shape) end (s1 .value .next) rs =
+      subst (λ (k : ℕ). SaidAnswers d m ef seed metric log (kindNumber shape) end k rs) (t .next-is) (a .1) in
+      let others = all-said shape end rs (s1 .value .next) (s2 .value) (s2 .first) more in
+      subst (AllSaid at (r ∷ rs)) is
+      (record {
+        operations-are = λ i. t .operation-is i ∷ others .operations-are i;
+        ends-there = ap (λ (k : ℕ). behindAllSaid k rs) (t .next-is) ∙ others .ends-there;
+      })
+
+said-walked : (d m ef seed metric : ℕ) (log : List ℕ) (previous at : ℕ) (frame : Door.Frame)
+    → frame ≡ frameSaid (frameTold (frameAsked d m ef seed metric log previous at)) → (frame .kind ≡ 0 → ⊥)
+    → (rs : List DoorOperation.Operation) → length rs ≡ frame .operations
+    → SaidAnswers d m ef seed metric log (frame .kind) (frame .end) (frame .first) rs
+    → SaidWalked d m ef seed metric log previous at frame rs
+said-walked d m ef seed metric log previous at frame e some rs many a = settled (settingsOf d m ef seed metric) refl e
+  where
+    kind-of : Door.Frame → ℕ
+    kind-of f = f .kind
+
+    there : (c : Config) → settingsOf d m ef seed metric ≡ answer c → (x : ReadFrame) → frameCall c log previous at ≡ x → frame ≡ frameSaid (frameTold x)
+        → SaidWalked d m ef seed metric log previous at frame rs
+    there c known tooLittle w e = absurd (some (ap kind-of e))
+    there c known (wrong why) w e = absurd (some (ap kind-of e))
+    there c known (found f next) w e =
+        let all = operations-walked c log previous at f next w in
+        let as-many : length rs ≡ length (f .operations) = many ∙ ap (λ (x : Door.Frame). x .operations) e in
+        let here = ap (λ (k : ℕ). operationsWalked k c log (f .shape) (operationsEnd next) (firstOperation (f .shape) (f .start))) as-many ∙ all in
+        let answers = subst (λ (x : Door.Frame). SaidAnswers d m ef seed metric log (x .kind) (x .end) (x .first) rs) e a in
+        let t = all-said d m ef seed metric log c known (f .shape) (operationsEnd next) rs (firstOperation (f .shape) (f .start)) _ here answers in
+        subst (λ (x : Door.Frame). SaidWalked d m ef seed metric log previous at x rs) (sym e)
+        (record {
+          config = c;
+          settings-are = known;
+          meant = f;
+          there = frame-called c log previous at f next w .there;
+          operations-are = t .operations-are;
+          ends-there = t .ends-there;
+        })
+
+    settled : (x : Result Config) → settingsOf d m ef seed metric ≡ x → frame ≡ frameSaid (frameTold (told (λ c. frameCall c log previous at) wrong x))
+        → SaidWalked d m ef seed metric log previous at frame rs
+    settled (answer c) known e = there c known (frameCall c log previous at) refl e
+    settled (refused why) known e = absurd (some (ap kind-of e))
+
 pub log-walked : LogWalked
-log-walked = record { operations-walked = operations-walked; frames-walked = frames-walked; frame-walked = frame-walked }
+log-walked = record { operations-walked = operations-walked; frames-walked = frames-walked; frame-walked = frame-walked; said-walked = said-walked }

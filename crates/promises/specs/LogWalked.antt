@@ -1,5 +1,5 @@
 -- A log walked by its calls gives what the definitions decode it to: `frame_at` from byte 0 on its frames, and of each frame that it
--- finds `operation_at` its operations, none left out, none twice, none refused, to the frame's end.
+-- finds `operation_at` its operations, none left out, none twice, none refused, to the frame's end. So do the two entries for C.
 use Prim.Native.Nat.{ℕ, zero, suc}
 use mathlib.Core.Path.{_≡_}
 use mathlib.Core.List.{List, [], _∷_, map}
@@ -17,7 +17,11 @@ use Rattle.log.specs.declared.Frame.{Frame}
 use Rattle.log.specs.declared.ReadOperation.{ReadOperation}
 use Rattle.log.specs.declared.ReadOperation.the-variants as Operations
 use Rattle.log.specs.declared.ReadFrame.the-variants as ReadFrames
-use Rattle.log.specs.Told.{operationTold, frameTold}
+use Rattle.log.specs.Told.{operationThen, operationTold, frameTold}
+use Rattle.lambspool.specs.declared.Frame as Door
+use Rattle.lambspool.specs.declared.Operation as DoorOperation
+use Rattle.lambspool.specs.Asked.{settingsOf, frameAsked, operationAsked}
+use Rattle.lambspool.specs.Said.{frameSaid, operationSaid}
 
 -- ---- the walks, over what the calls are said to give
 -- n operations from `at` on, each where the one before ended; a refusal ends it
@@ -62,6 +66,32 @@ pub record FrameWalked (c : Config) (log : List ℕ) (previous at : ℕ) (frame 
   pub operations-are : map operationIn rs ≡ map answer (meant .operations)
   pub ends-there : behindAll (firstOperation (frame .shape) (frame .start)) rs ≡ operationsEnd (frame .next)
 
+-- ---- the same of the C entries, where `kind`, `end` and `first` are the frame's own
+abbrev pub SaidAnswers : ℕ → ℕ → ℕ → ℕ → ℕ → List ℕ → ℕ → ℕ → ℕ → List DoorOperation.Operation → Type 0
+SaidAnswers d m ef seed metric log kind end at [] = Unit
+SaidAnswers d m ef seed metric log kind end at (r ∷ rs) =
+    (r ≡ operationSaid d (operationTold (operationAsked d m ef seed metric log kind end at))) × SaidAnswers d m ef seed metric log kind end (r .next) rs
+
+abbrev pub behindAllSaid : ℕ → List DoorOperation.Operation → ℕ
+behindAllSaid at [] = at
+behindAllSaid at (r ∷ rs) = behindAllSaid (r .next) rs
+
+-- where the next one begins apart
+abbrev pub withoutNext : DoorOperation.Operation → DoorOperation.Operation
+withoutNext r =
+    record { number = r .number; tag = r .tag; id = r .id; vector = r .vector; caption = r .caption; «caption_length» = r .«caption_length»; next = 0 }
+
+abbrev pub saidOf : ℕ → Operation Row → DoorOperation.Operation
+saidOf d o = operationSaid d (operationThen 0 o)
+
+pub record SaidWalked (d m ef seed metric : ℕ) (log : List ℕ) (previous at : ℕ) (frame : Door.Frame) (rs : List DoorOperation.Operation) : Type 0 where
+  pub config : Config
+  pub settings-are : settingsOf d m ef seed metric ≡ answer config
+  pub meant : Replays.Frame Row
+  pub there : frameAt config log previous at ≡ found meant (frame .next)
+  pub operations-are : map withoutNext rs ≡ map (saidOf d) (meant .operations)
+  pub ends-there : behindAllSaid (frame .first) rs ≡ frame .end
+
 pub record LogWalked : Type 0 where
   pub operations-walked : (c : Config) (log : List ℕ) (previous at : ℕ) (f : Replays.Frame Row) (next : ℕ) → frameCall c log previous at ≡ found f next
       → operationsWalked (length (f .operations)) c log (f .shape) (operationsEnd next) (firstOperation (f .shape) (f .start))
@@ -73,3 +103,10 @@ pub record LogWalked : Type 0 where
       → (rs : List ReadOperation) → length rs ≡ frame .operations
       → Answers c log (frame .shape) (operationsEnd (frame .next)) (firstOperation (frame .shape) (frame .start)) rs
       → FrameWalked c log previous at frame rs
+  -- from C: a frame of any kind that `lambspool_frame_at` finds (`door-frame-at-one-answer`), and the answers of `lambspool_operation_at`
+  -- (`door-operation-at-one-answer`): each is the next operation of the frame, by its tag, ID and places
+  pub said-walked : (d m ef seed metric : ℕ) (log : List ℕ) (previous at : ℕ) (frame : Door.Frame)
+      → frame ≡ frameSaid (frameTold (frameAsked d m ef seed metric log previous at)) → (frame .kind ≡ 0 → ⊥)
+      → (rs : List DoorOperation.Operation) → length rs ≡ frame .operations
+      → SaidAnswers d m ef seed metric log (frame .kind) (frame .end) (frame .first) rs
+      → SaidWalked d m ef seed metric log previous at frame rs
