@@ -12,11 +12,8 @@ use Rattle.refusal.specs.Refusal.{Result, answer, refused, checked}
 use Rattle.config.specs.Settings.{validate, metricOf, metricTold}
 use Rattle.coordinates.specs.Coordinates.{vectorOf}
 use Rattle.meaning.specs.Snapshot as Meant
-use Rattle.meaning.specs.Log as Logs
-use Rattle.meaning.specs.Calls.{frameCall}
 use Rattle.snapshot.specs.Told.{headerTold}
-use Rattle.log.specs.Told.{frameTold}
-use Rattle.promises.specs.Numbered.{accepted, refusedBy, numbersOf, checkedNumbers, metricNumbers, headerValues, headerNumbers, frameNumbers, meantFrameNumbers, Numbered}
+use Rattle.promises.specs.Numbered.{accepted, refusedBy, numbersOf, checkedNumbers, metricNumbers, headerValues, headerNumbers, Numbered}
 
 of-checked : (x : Result (Unit {0})) → checkedNumbers (checked x) ≡ numbersOf (λ u. []) x
 of-checked (answer u) = refl
@@ -35,11 +32,6 @@ of-header : (x : Result Meant.Header) → headerNumbers (headerTold x) ≡ numbe
 of-header (answer h) = refl
 of-header (refused why) = refl
 
-of-frame : (x : Logs.ReadFrame) → frameNumbers (frameTold x) ≡ meantFrameNumbers x
-of-frame Logs.tooLittle = refl
-of-frame (Logs.found f next) = refl
-of-frame (Logs.wrong why) = refl
-
 pub numbered : Numbered
 numbered =
     record {
@@ -47,5 +39,4 @@ numbered =
       validate-numbers = λ κs self r e. ap checkedNumbers e ∙ of-checked (validate self);
       check-bits-numbers = λ κs bits cosine r e. ap checkedNumbers e ∙ of-checked (vectorOf cosine (now bits));
       read-header-numbers = λ κs bytes r e. ap headerNumbers e ∙ of-header (Meant.readHeader (now bytes));
-      frame-at-numbers = λ κs config log previous at r e. ap frameNumbers e ∙ of-frame (frameCall config (now log) previous at);
     }

@@ -47,4 +47,5 @@ log-calls =
     record {
       frame-at-contract = λ κs config log previous at r p. record { result-is = p };
       frame-at-one-answer = λ config log previous at r s m n. one-answer (m .result-is) (n .result-is);
+      log-operation-at-one-answer = λ κs config log shape end at. exact;
     }

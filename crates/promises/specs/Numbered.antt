@@ -1,12 +1,11 @@
 -- An answer that is an enum in numbers: document 01's number, 0 where nothing is refused, and the values of each case. What the C entries
--- hand on is said so in `lambspool/Said`, a field in `PastTheEnd`; here are a test, a metric, a header and a frame, with what the calls
--- answer by them.
+-- hand on is said so in `lambspool/Said`, a field in `PastTheEnd`; here are a test, a metric and a header, with what the calls answer
+-- by them.
 use Prim.Native.Nat.{ℕ}
 use mathlib.Core.Path.{_≡_}
 use mathlib.Core.Bool.{Bool, cond}
 use mathlib.Core.List.{List, [], _∷_}
 use lib.Dec.{ltb}
-use lib.ListN.{length}
 use denote.Ref.{RefT, now}
 use Rattle.refusal.specs.declared.Refusal.{Refusal}
 use Rattle.refusal.specs.declared.Refusal.the-variants.{WrongMetric}
@@ -17,21 +16,14 @@ use Rattle.config.specs.Settings.{metricNumber, efOf, validate}
 use Rattle.config.specs.declared.Config.{Config}
 use Rattle.config.specs.declared.ReadMetric.{ReadMetric}
 use Rattle.config.specs.declared.ReadMetric.the-variants as Metrics
-use Rattle.layout.specs.declared.Shape.{Shape}
-use Rattle.layout.specs.declared.Shape.the-variants.{Single, Batch}
 use Rattle.coordinates.specs.Coordinates.{vectorOf}
 use Rattle.meaning.specs.Snapshot as Meant
-use Rattle.meaning.specs.Log as Logs
-use Rattle.meaning.specs.Calls.{frameCall}
 use Rattle.snapshot.specs.declared.ReadHeader.{ReadHeader}
 use Rattle.snapshot.specs.declared.ReadHeader.the-variants as Headers
-use Rattle.log.specs.declared.ReadFrame.{ReadFrame}
-use Rattle.log.specs.declared.ReadFrame.the-variants as Frames
 use Rattle.config.proofs.Metric.from_u32.Reads as MetricFromCall
 use Rattle.config.proofs.Config.validate.Reads as ValidateCall
 use Rattle.coordinates.proofs.check_bits.Reads as CheckBitsCall
 use Rattle.snapshot.proofs.read_header.Reads as ReadHeaderCall
-use Rattle.log.proofs.frame_at.Reads as FrameAtCall
 
 pub record Numbers : Type 0 where
   pub number : ℕ
@@ -67,26 +59,6 @@ abbrev pub headerNumbers : ReadHeader → Numbers
 headerNumbers (Headers.Read h) = accepted (headerValues (h .config) (h .sequence) (h .count) (h .first))
 headerNumbers (Headers.Refused why) = refusedBy why
 
--- 1 a single operation, 2 a batch
-abbrev pub shapeNumber : Shape → ℕ
-shapeNumber Single = 1
-shapeNumber Batch = 2
-
--- first byte, sequence, shape, how many operations, the byte behind; where there is too little for a frame nothing is refused, and there is no value
-abbrev pub frameValues : ℕ → ℕ → Shape → ℕ → ℕ → List ℕ
-frameValues start sequence shape operations next = start ∷ sequence ∷ shapeNumber shape ∷ operations ∷ next ∷ []
-
-abbrev pub frameNumbers : ReadFrame → Numbers
-frameNumbers Frames.TooLittle = accepted []
-frameNumbers (Frames.Whole f) = accepted (frameValues (f .start) (f .sequence) (f .shape) (f .operations) (f .next))
-frameNumbers (Frames.Refused why) = refusedBy why
-
--- the same of what `meaning` gives
-abbrev pub meantFrameNumbers : Logs.ReadFrame → Numbers
-meantFrameNumbers Logs.tooLittle = accepted []
-meantFrameNumbers (Logs.found f next) = accepted (frameValues (f .start) (f .sequence) (f .shape) (length (f .operations)) next)
-meantFrameNumbers (Logs.wrong why) = refusedBy why
-
 pub record Numbered : Type 0 where
   -- Metric::from_u32(v): the number itself, or 5
   pub metric-from-numbers : (κs : _) (v : ℕ) (r : ReadMetric) → MetricFromCall.Learnt κs (v, tt) r (v, tt)
@@ -99,7 +71,3 @@ pub record Numbered : Type 0 where
   -- read_header(bytes)
   pub read-header-numbers : (κs : _) (bytes : RefT (List ℕ)) (r : ReadHeader) → ReadHeaderCall.Learnt κs (bytes, tt) r (bytes, tt)
       → headerNumbers r ≡ numbersOf (λ h. headerValues (h .config) (h .sequence) (h .count) (h .first)) (Meant.readHeader (now bytes))
-  -- frame_at(config, log, previous, at)
-  pub frame-at-numbers : (κs : _) (config : Config) (log : RefT (List ℕ)) (previous at : ℕ) (r : ReadFrame)
-      → FrameAtCall.Learnt κs (config, (log, (previous, (at, tt)))) r (config, (log, (previous, (at, tt))))
-      → frameNumbers r ≡ meantFrameNumbers (frameCall config (now log) previous at)
