@@ -212,6 +212,57 @@ lambspool_recovery *lambspool_recover(lambspool_recovery *result, const void *sn
  * Accepted: source and at are 0. Refused: both tables are all zeros, and *result but for number, source and at. The log's length (20)
  * is tested first, then the snapshot (1 to 19), then the log (4, 12 to 16, 19, 21 to 29). */
 
+/* ---- a log, frame by frame: what was in it, whether or not a recovery takes it */
+
+/* Kinds of frames. LAMBSPOOL_NO_FRAME: too little is left for a whole frame. */
+#define LAMBSPOOL_NO_FRAME 0
+#define LAMBSPOOL_SINGLE 1
+#define LAMBSPOOL_BATCH 2
+
+/* Tags of operations. */
+#define LAMBSPOOL_TAG_PUT 1
+#define LAMBSPOOL_TAG_DELETE 2
+
+typedef struct lambspool_frame {
+    uint32_t number;
+    uint32_t kind;            /* LAMBSPOOL_SINGLE or LAMBSPOOL_BATCH; LAMBSPOOL_NO_FRAME where there is none, or it was refused */
+    uint64_t sequence;
+    size_t operations;        /* how many: of a single frame 1, of a batch 1 to 1024 */
+    size_t at;                /* the frame's first byte */
+    size_t first;             /* the tag of its first operation: for lambspool_operation_at */
+    size_t end;               /* the byte behind its last operation: for lambspool_operation_at */
+    size_t next;              /* the byte behind the frame, where the next one begins: 4 more than end */
+} lambspool_frame;
+
+lambspool_frame *lambspool_frame_at(lambspool_frame *result, size_t dimensions, size_t m, size_t ef_construction, uint64_t seed,
+    uint32_t metric, const void *log, size_t log_length, uint64_t previous, size_t at);
+/* Reads the frame whose first byte is `at`, its CRCs and all its operations. Settings are those of the snapshot beside the log. To
+ * walk a log, begin at byte 0 with `previous` 0; go on at the `next` of each frame, with its sequence as `previous`.
+ *
+ * Test number, then kind: where both are 0, the log ends at `at`, or fewer bytes are left than the frame has. That is a tail and no
+ * refusal. Refused by 5 to 8, then 21, 22, 23, 24, 25, as operations are read 4, 26, 12 to 15, then 16. In both cases every other
+ * field is 0. A frame that is found here a recovery can still refuse, by 19, 27, 28 or 29. */
+
+typedef struct lambspool_operation {
+    uint32_t number;
+    uint32_t tag;             /* LAMBSPOOL_TAG_PUT or LAMBSPOOL_TAG_DELETE; refused: 0 */
+    uint64_t id;
+    size_t vector;            /* a put: the first byte of its coordinates in the log, 4 bytes each; else 0 */
+    size_t caption;           /* a put: the first byte of its caption in the log; else 0 */
+    size_t caption_length;    /* bytes, with no zero behind; a delete: 0 */
+    size_t next;              /* the tag of the next operation; behind the last one, the frame's end */
+} lambspool_operation;
+
+lambspool_operation *lambspool_operation_at(lambspool_operation *result, size_t dimensions, size_t m, size_t ef_construction,
+    uint64_t seed, uint32_t metric, const void *log, size_t log_length, uint32_t kind, size_t end, size_t at);
+/* Reads one operation of a frame that lambspool_frame_at found: kind and end are that frame's; `at` is its `first`, then the `next`
+ * of the operation before, as many times as the frame has operations and no more. So called it refuses nothing, and the last `next`
+ * is `end`.
+ *
+ * `end` is not the frame's `next` and not the log's length: with those, a CRC or another frame could be taken for an operation. With
+ * any numbers the call stays inside the log. Refused by 5 to 8, 33 if kind is neither LAMBSPOOL_SINGLE nor LAMBSPOOL_BATCH, 4 if
+ * `end` is past the log's end, then 4, 26, 12 to 15: every other field is 0. */
+
 /* ---- looking at what was read: the tables, and the very bytes that were handed to the reading */
 
 typedef struct lambspool_found {

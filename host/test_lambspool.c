@@ -219,6 +219,175 @@ static void wrong_bytes(void)
     }
 }
 
+/* ---- a log, frame by frame */
+static lambspool_frame framed(const uint8_t *log, size_t n, uint64_t previous, size_t from)
+{
+    lambspool_frame f;
+    memset(&f, 0xa5, sizeof f);
+    if (lambspool_frame_at(&f, 1, 16, 200, 42, LAMBSPOOL_SQUARED_L2, copied(0, log, n), n, previous, from) != &f)
+        check("the frame's address comes back", false);
+    return f;
+}
+
+static lambspool_operation operated(const uint8_t *log, size_t n, uint32_t kind, size_t end, size_t from)
+{
+    lambspool_operation o;
+    memset(&o, 0xa5, sizeof o);
+    if (lambspool_operation_at(&o, 1, 16, 200, 42, LAMBSPOOL_SQUARED_L2, copied(0, log, n), n, kind, end, from) != &o)
+        check("the operation's address comes back", false);
+    return o;
+}
+
+static bool no_frame(lambspool_frame f, uint32_t number)
+{
+    return f.number == number && f.kind == LAMBSPOOL_NO_FRAME && f.sequence == 0 && f.operations == 0 && f.at == 0 && f.first == 0 && f.end == 0 && f.next == 0;
+}
+
+static bool no_operation(lambspool_operation o, uint32_t number)
+{
+    return o.number == number && o.tag == 0 && o.id == 0 && o.vector == 0 && o.caption == 0 && o.caption_length == 0 && o.next == 0;
+}
+
+/* what the example's log has: a put of one frame is one, and so is each operation of the batch */
+static const struct { uint64_t id; uint32_t tag; const char *caption; } put_in[6] = {
+    {7, LAMBSPOOL_TAG_PUT, "Hi"}, {7, LAMBSPOOL_TAG_PUT, "Ho"}, {8, LAMBSPOOL_TAG_PUT, "Hi"}, {9, LAMBSPOOL_TAG_PUT, ""}, {8, LAMBSPOOL_TAG_DELETE, NULL}, {9, LAMBSPOOL_TAG_DELETE, NULL}};
+
+/* the operations of a frame, from the k-th of the log on */
+static bool walked(const uint8_t *log, size_t n, lambspool_frame f, size_t k)
+{
+    size_t from = f.first;
+    for (size_t i = 0; i < f.operations; i++, k++) {
+        lambspool_operation o = operated(log, n, f.kind, f.end, from);
+        size_t place = from + (f.kind == LAMBSPOOL_SINGLE ? 9 : 1);
+        if (o.number != 0 || o.tag != put_in[k].tag || o.tag != log[from] || o.id != put_in[k].id)
+            return false;
+        if (o.tag == LAMBSPOOL_TAG_DELETE) {
+            if (o.vector != 0 || o.caption != 0 || o.caption_length != 0 || o.next != place + 8)
+                return false;
+        } else if (o.vector != place + 8 || memcmp(log + o.vector, "\0\0\200\77", 4) != 0 || o.caption != o.vector + 8 || o.caption_length != strlen(put_in[k].caption)
+            || memcmp(log + o.caption, put_in[k].caption, o.caption_length) != 0 || o.next != o.caption + o.caption_length)
+            return false;
+        from = o.next;
+    }
+    return from == f.end;
+}
+
+static void walks(void)
+{
+    static const size_t operations[4] = {1, 1, 3, 1};
+    bool good = true;
+    memcpy(store_log + log_length, "abc", 3);
+    for (size_t cut = 0; cut <= log_length + 3; cut++) {
+        size_t i = 0, k = 0;
+        lambspool_frame f = framed(store_log, cut, 0, 0);
+        for (; f.kind != LAMBSPOOL_NO_FRAME && i < 4; i++) {
+            good = good && f.number == 0 && f.kind == (i == 2 ? LAMBSPOOL_BATCH : LAMBSPOOL_SINGLE) && f.sequence == i + 1 && f.operations == operations[i] && f.at == ends[i]
+                && f.first == ends[i] + (i == 2 ? 21 : 8) && f.end == ends[i + 1] - 4 && f.next == ends[i + 1] && walked(store_log, cut, f, k);
+            k += f.operations;
+            f = framed(store_log, cut, f.sequence, f.next);
+        }
+        good = good && no_frame(f, 0) && ends[i] <= cut && (i == 4 || cut < ends[i + 1]);
+    }
+    check("a log walked, at every cut", good);
+    good = no_frame(framed(store_log, log_length, 4, log_length + 1), 0) && no_frame(framed(store_log, log_length, 4, SIZE_MAX), 0)
+        && no_frame(framed(NULL, 0, 0, 0), 0) && no_frame(framed(store_log, log_length, 2, ends[1]), LAMBSPOOL_WRONG_SEQUENCE);
+    for (size_t i = 0; i < ends[1]; i++) {
+        static const uint32_t numbers[2] = {LAMBSPOOL_WRONG_LENGTH_CRC, LAMBSPOOL_WRONG_PAYLOAD_CRC};
+        store_log[i] ^= 0x55;
+        good = good && no_frame(framed(store_log, log_length, 0, 0), numbers[8 <= i]) && framed(store_log, log_length, 0, ends[1]).sequence == 2;
+        store_log[i] ^= 0x55;
+    }
+    check("no frame: past the end, out of order, every byte wrong", good);
+}
+
+/* any place and any end: the call stays inside, and what it tells lies before the end */
+static void any_places(void)
+{
+    bool good = true;
+    static const size_t far[4] = {SIZE_MAX, SIZE_MAX - 8, SIZE_MAX - 1, (size_t)1 << 63};
+    for (uint32_t kind = LAMBSPOOL_SINGLE; kind <= LAMBSPOOL_BATCH; kind++)
+        for (size_t end = 0; end <= log_length + 1; end++) {
+            for (size_t from = 0; from <= log_length + 1; from++) {
+                lambspool_operation o = operated(store_log, log_length, kind, end, from);
+                if (o.number != 0)
+                    good = good && no_operation(o, o.number);
+                else
+                    good = good && end <= log_length && from < o.next && o.next <= end && (o.tag == LAMBSPOOL_TAG_DELETE || o.next == o.caption + o.caption_length);
+            }
+            for (int i = 0; i < 4; i++)
+                good = good && no_operation(operated(store_log, log_length, kind, end, far[i]), LAMBSPOOL_PAST_THE_END)
+                    && no_operation(operated(store_log, log_length, kind, far[i], end), LAMBSPOOL_PAST_THE_END);
+        }
+    check("an operation at any place, with any end", good);
+}
+
+/* frames made by hand, so that every refusal of what is decoded is reached */
+static size_t made_frame(uint8_t *log, const void *payload, size_t n)
+{
+    word(log, (uint32_t)n);
+    word(log + 4, lambspool_crc32_of(log, 4));
+    memcpy(log + 8, payload, n);
+    word(log + 8 + n, lambspool_crc32_of(log + 8, n));
+    return n + 12;
+}
+
+static void wrong_frames(void)
+{
+    static const struct { uint32_t number; size_t n; const char *payload; uint32_t metric; } wrong[] = {
+        {LAMBSPOOL_WRONG_LENGTH, 16, "\2\1\0\0\0\0\0\0\0\7\0\0\0\0\0\0", 0},
+        {LAMBSPOOL_WRONG_SEQUENCE, 17, "\2\0\0\0\0\0\0\0\0\7\0\0\0\0\0\0\0", 0},
+        {LAMBSPOOL_WRONG_BATCH_COUNT, 22, "\3\1\0\0\0\0\0\0\0\0\0\0\0\2\7\0\0\0\0\0\0\0", 0},
+        {LAMBSPOOL_WRONG_BATCH_COUNT, 22, "\3\1\0\0\0\0\0\0\0\2\0\0\0\2\7\0\0\0\0\0\0\0", 0},
+        {LAMBSPOOL_UNKNOWN_OPERATION, 17, "\4\1\0\0\0\0\0\0\0\7\0\0\0\0\0\0\0", 0},
+        {LAMBSPOOL_UNKNOWN_OPERATION, 22, "\3\1\0\0\0\0\0\0\0\1\0\0\0\0\7\0\0\0\0\0\0\0", 0},
+        {LAMBSPOOL_PAST_THE_END, 17, "\1\1\0\0\0\0\0\0\0\7\0\0\0\0\0\0\0", 0},
+        {LAMBSPOOL_PAST_THE_END, 25, "\1\1\0\0\0\0\0\0\0\7\0\0\0\0\0\0\0\0\0\200\77\1\0\0\0", 0},
+        {LAMBSPOOL_NOT_FINITE, 25, "\1\1\0\0\0\0\0\0\0\7\0\0\0\0\0\0\0\0\0\200\177\0\0\0\0", 0},
+        {LAMBSPOOL_VECTOR_ALL_ZERO, 25, "\1\1\0\0\0\0\0\0\0\7\0\0\0\0\0\0\0\0\0\0\200\0\0\0\0", LAMBSPOOL_COSINE},
+        {LAMBSPOOL_CAPTION_TOO_LONG, 25, "\1\1\0\0\0\0\0\0\0\7\0\0\0\0\0\0\0\0\0\200\77\1\100\0\0", 0},
+        {LAMBSPOOL_NOT_UTF8, 26, "\1\1\0\0\0\0\0\0\0\7\0\0\0\0\0\0\0\0\0\200\77\1\0\0\0\377", 0},
+        {LAMBSPOOL_BYTES_LEFT_OVER, 18, "\2\1\0\0\0\0\0\0\0\7\0\0\0\0\0\0\0\0", 0},
+    };
+    bool good = true;
+    uint8_t log[64];
+    for (size_t i = 0; i < sizeof wrong / sizeof wrong[0]; i++) {
+        size_t n = made_frame(log, wrong[i].payload, wrong[i].n);
+        lambspool_frame f;
+        lambspool_operation o;
+        uint32_t kind = log[8] == 3 ? LAMBSPOOL_BATCH : LAMBSPOOL_SINGLE, number = wrong[i].number;
+        lambspool_frame_at(&f, 1, 16, 200, 42, wrong[i].metric, copied(0, log, n), n, 0, 0);
+        good = good && no_frame(f, number);
+        if (number == LAMBSPOOL_WRONG_LENGTH || number == LAMBSPOOL_WRONG_SEQUENCE || number == LAMBSPOOL_WRONG_BATCH_COUNT || number == LAMBSPOOL_BYTES_LEFT_OVER)
+            continue; /* a frame's own: an operation has none of these */
+        lambspool_operation_at(&o, 1, 16, 200, 42, wrong[i].metric, copied(0, log, n), n, kind, n - 4, kind == LAMBSPOOL_BATCH ? 21 : 8);
+        good = good && no_operation(o, number);
+    }
+    check("frames and operations wrong in each way that is told", good);
+}
+
+static void wrong_walks(void)
+{
+    static const uint32_t kinds[4] = {LAMBSPOOL_NO_FRAME, 3, 256 + LAMBSPOOL_SINGLE, UINT32_MAX};
+    static const struct { uint32_t number; size_t d, m, ef; uint32_t metric; } wrong[5] = {{5, 0, 1, 0, 3}, {6, 0, 1, 0, 0}, {6, 4097, 1, 0, 0}, {7, 1, 1, 0, 0}, {8, 1, 16, 15, 0}};
+    bool good = true;
+    uint8_t *log = copied(0, store_log, log_length);
+    for (int i = 0; i < 5; i++) {
+        lambspool_frame f;
+        lambspool_operation o;
+        lambspool_frame_at(&f, wrong[i].d, wrong[i].m, wrong[i].ef, 42, wrong[i].metric, log, log_length, 9, 3);
+        good = good && no_frame(f, wrong[i].number);
+        for (uint32_t kind = 0; kind < 4; kind++) {
+            lambspool_operation_at(&o, wrong[i].d, wrong[i].m, wrong[i].ef, 42, wrong[i].metric, log, log_length, kind, SIZE_MAX, 0);
+            good = good && no_operation(o, wrong[i].number);
+        }
+    }
+    for (int i = 0; i < 4; i++)
+        good = good && no_operation(operated(store_log, log_length, kinds[i], SIZE_MAX, SIZE_MAX), LAMBSPOOL_REQUEST_MALFORMED);
+    good = good && no_operation(operated(store_log, log_length, LAMBSPOOL_SINGLE, log_length + 1, ends[3] + 8), LAMBSPOOL_PAST_THE_END)
+        && operated(store_log, log_length, LAMBSPOOL_SINGLE, log_length, ends[3] + 8).number == 0;
+    check("settings that are wrong, a kind that is none: 5 to 8, then 33, then 4", good);
+}
+
 /* ---- what can be looked at, and what is written of it */
 static void looks(void)
 {
@@ -459,6 +628,10 @@ static void every_call(void)
         example();
         recoveries();
         wrong_bytes();
+        walks();
+        any_places();
+        wrong_frames();
+        wrong_walks();
         looks();
         lines_of_nodes();
         written_again();

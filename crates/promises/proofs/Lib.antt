@@ -13,6 +13,7 @@ pub mod RecoverShown
 pub mod ListingKept
 pub mod DoorKept
 pub mod RefusedShown
+pub mod LogWalks
 pub mod Rewritten
 pub mod TakenOnceShown
 pub mod CaptionsShown

@@ -12,6 +12,7 @@ use Rattle.promises.proofs.FilesWritten.{written-file}
 use Rattle.promises.proofs.FilesRead.{read-and-written}
 use Rattle.promises.proofs.DeletesLeft.{delete-frame}
 use Rattle.promises.proofs.FramesEncoded.{encoded-frame}
+use Rattle.promises.proofs.LogWalks.{log-walked}
 use Rattle.promises.proofs.RecoverShown.{recover-calls}
 use Rattle.promises.proofs.RefusedShown.{refused-calls}
 use Rattle.promises.proofs.Rewritten.{written-again}
@@ -61,6 +62,7 @@ promises =
       read-and-written = read-and-written;
       delete-frame = delete-frame;
       encoded-frame = encoded-frame;
+      log-walked = log-walked;
       recover-write-recover = written-again;
       recovered-once = recovered-once;
       captions-of-deleted = captions-of-deleted;

@@ -46,4 +46,5 @@ pub log-calls : LogCalls
 log-calls =
     record {
       frame-at-one-answer = λ κs config log previous at. exact;
+      log-operation-at-one-answer = λ κs config log shape end at. exact;
     }

@@ -13,6 +13,7 @@ pub mod Recover
 pub mod Listing
 pub mod Door
 pub mod Refused
+pub mod LogWalked
 pub mod RecoverWriteRecover
 pub mod RecoveredOnce
 pub mod CaptionsOfDeleted

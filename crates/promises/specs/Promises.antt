@@ -12,6 +12,7 @@ use Rattle.promises.specs.WrittenFile.{WrittenFile}
 use Rattle.promises.specs.ReadAndWritten.{ReadAndWritten}
 use Rattle.promises.specs.DeleteFrame.{DeleteFrame}
 use Rattle.promises.specs.EncodedFrame.{EncodedFrame}
+use Rattle.promises.specs.LogWalked.{LogWalked}
 use Rattle.promises.specs.Refused.{Refused}
 use Rattle.promises.specs.RecoverWriteRecover.{RecoverWriteRecover}
 use Rattle.promises.specs.RecoveredOnce.{RecoveredOnce}
@@ -62,6 +63,7 @@ pub record Promises : Type 0 where
   pub read-and-written : ReadAndWritten
   pub delete-frame : DeleteFrame
   pub encoded-frame : EncodedFrame
+  pub log-walked : LogWalked
   -- recovery: demand 3, what is taken, what does not count, what is gone
   pub recover-write-recover : RecoverWriteRecover
   pub recovered-once : RecoveredOnce
