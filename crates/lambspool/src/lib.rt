@@ -441,10 +441,12 @@ fn kind_number(shape: Shape) -> u32
 }
 
 // A frame has 29 bytes at least.
-fn first_operation(shape: Shape, start: usize, next: usize) -> usize
-    requires { ⌜ start + 29 ≤ next ⌝ }
-    ensures { λ r. ⌜ r ≡ firstOperation shape start ⌝ }
+fn first_operation(frame: log::Frame) -> usize
+    requires { ⌜ frame .start + 29 ≤ frame .next ⌝ }
+    ensures { λ r. ⌜ r ≡ firstOperation (frame .shape) (frame .start) ⌝ }
 {
+    let start = frame.start;
+    let shape = frame.shape;
     match shape {
         Shape::Single => start + layout::FRAME_HEAD,
         Shape::Batch => start + layout::FRAME_HEAD + layout::BATCH_HEAD,
@@ -465,7 +467,7 @@ fn frame_said(answer: ReadFrame) -> Frame
                 sequence: frame.sequence,
                 operations: frame.operations,
                 at: frame.start,
-                first: first_operation(shape, frame.start, frame.next),
+                first: first_operation(frame),
                 end: frame.next - layout::CRC_LENGTH,
                 next: frame.next,
             }
