@@ -266,7 +266,7 @@ static void wait_a_little(void)
 }
 
 /* Recovers what a reading found, and says whether that is to be told: ACCEPTED, REFUSED, or FAILED if the store moved meanwhile. A
- * refusal, or a tail, is told if it is still there a little later: a tail may be a frame that is being written. */
+ * refusal, or a tail, is told if it is still there a little later: a tail that is at the log's end no more was a frame being written. */
 static int judge(int folder, struct store *s, bool cache)
 {
     enum found found = look_again(folder, s, cache);
@@ -279,9 +279,10 @@ static int judge(int folder, struct store *s, bool cache)
     if (r->number == LAMBSPOOL_ACCEPTED && r->tail == 0)
         return ACCEPTED;
     wait_a_little();
-    if (look_again(folder, s, cache) != SAME || read_again(&s->snapshot, LAMBSPOOL_MAX_SNAPSHOT) != SAME)
-        return FAILED;
-    return r->number == LAMBSPOOL_ACCEPTED ? ACCEPTED : REFUSED;
+    found = read_again(&s->snapshot, LAMBSPOOL_MAX_SNAPSHOT) == SAME ? look_again(folder, s, cache) : OTHER;
+    if (r->number != LAMBSPOOL_ACCEPTED)
+        return found != OTHER ? REFUSED : FAILED;
+    return found == SAME ? ACCEPTED : FAILED;
 }
 
 /* Reads a store and recovers it, anew if it moves. Unreadable is what cannot be read twice for the same reason. */
@@ -297,6 +298,7 @@ static int recover(const char *folder, bool cache, struct store *s)
         if (reading != 0)
             wait_a_little();
         close_store(s);
+        s->told = (lambspool_recovery){0};
         error = read_files(at, cache, s, &name);
         if (error == ENOMEM || (error != 0 && error == error_before && name == name_before)) {
             close(at);
@@ -425,8 +427,10 @@ static struct frames frames_of(const struct store *s)
 {
     const lambspool_recovery *r = &s->told;
     struct frames f = {r->replayed + r->skipped, 0, 0};
+    lambspool_frame first;
     if (f.count != 0) {
-        f.first = number_of(s->log.bytes + 9, 8);
+        lambspool_frame_at(&first, r->dimensions, r->m, r->ef_construction, r->seed, r->metric, s->log.bytes, s->log.length, 0, 0);
+        f.first = first.sequence;
         f.last = f.first + (f.count - 1);
     }
     return f;
