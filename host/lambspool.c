@@ -473,7 +473,7 @@ static void tell_tail(const uint8_t *tail, size_t length, uint64_t next)
         say("The tail is too short to tell what it is the front of.\n");
         return;
     }
-    if (length < 8 && (whole < 29 || whole > LAMBSPOOL_MAX_FRAME
+    if (length < 8 && (whole < LAMBSPOOL_DELETE_FRAME || whole > LAMBSPOOL_MAX_FRAME
             || number_of(tail + 4, length - 4) != (lambspool_crc32_of(tail, 4) & (((uint64_t)1 << 8 * (length - 4)) - 1)))) {
         say("The tail does not seem to be the front of a frame.\n");
         return;
@@ -499,7 +499,7 @@ static void tell_next(const struct store *s, uint64_t snapshot, struct frames f)
         say("No frame can be appended: the log is older than the snapshot, whose sequence %" PRIu64 " says that it holds the log's frames already%s. "
             "Keep a copy of the log, then empty it; the next frame then goes to byte 0, with sequence %" PRIu64 ".\n",
             snapshot, r->tail == 0 ? "" : ", and the one that the tail is the front of, if that is the next", snapshot + 1);
-    else if (r->keep > LAMBSPOOL_MAX_LOG - 29)
+    else if (r->keep > LAMBSPOOL_MAX_LOG - LAMBSPOOL_DELETE_FRAME)
         say("No frame can be appended: the log is as long as it may be.\n");
     else if (r->tail != 0)
         say("Before a frame is appended, keep a copy of the log, then cut it to %s; the frame then goes to byte %zu, with sequence %" PRIu64 ".\n",
@@ -680,7 +680,7 @@ static int snapshot(struct store *s, const char *name, bool compacted)
 {
     const lambspool_recovery *r = &s->told;
     lambspool_bytes written;
-    size_t room = r->size + 56;
+    size_t room = r->size + LAMBSPOOL_SNAPSHOT_AROUND;
     uint8_t *out = malloc(room);
     int status;
     if (out == NULL)
