@@ -29,11 +29,11 @@ use Rattle.log.specs.Stored.{IsFrame}
 use Rattle.log.specs.Told.{operationThen, operationRead, operationTold, frameFound, frameTold}
 use Rattle.replay.proofs.FrameFacts.{Lies, lies, batch-stored}
 use Rattle.recovery.proofs.RunLaws.{told-whole}
-use Rattle.lambspool.specs.declared.Frame as Door
-use Rattle.lambspool.specs.declared.Operation as DoorOperation
+use Rattle.lambspool.specs.declared.Frame as SaidFrame
+use Rattle.lambspool.specs.declared.Operation as Said
 use Rattle.lambspool.specs.Asked.{settingsOf, frameAsked, operationOf, operationAsked}
 use Rattle.lambspool.specs.Said.{kindNumber, frameSaid, operationSaid}
-use Rattle.promises.specs.LogWalked.{operationsWalked, framesWalked, behind, Answers, behindAll, operationIn, FrameWalked, SaidAnswers, behindAllSaid, withoutNext, saidOf, SaidWalked, LogWalked}
+use Rattle.promises.specs.LogWalked.{operationsWalked, framesWalked, Answers, behindAll, behind, operationIn, FrameWalked, nextSaid, withoutNext, saidOf, SaidWalked, LogWalked}
 
 -- ---- one operation, where it is known to stand
 module _ (c : Config) (log : List ℕ) (valid : validate c ≡ answer tt) (end : ℕ) (inside : end ≤ length log) where
@@ -123,49 +123,49 @@ frames-walked : (c : Config) (log : List ℕ) → validate c ≡ answer tt → f
 unfolding framesOf
 frames-walked c log = frames-walked-from (length log) c log 0 0
 
--- ---- the answers of the code
-pub record Told (r : ReadOperation) (this : Meant.ReadOperation) : Type 0 where
-  pub operation-is : operationIn r ≡ answer (this .operation)
-  pub next-is : behind r ≡ this .next
-
-told-this : (r : ReadOperation) (this : Meant.ReadOperation) → r ≡ operationRead this → Told r this
-told-this r this e = subst (λ (x : ReadOperation). Told x this) (sym e) (go (this .operation) refl)
+-- ---- answers one after another: `tell` is how one tells an operation, `show` what it tells without the next place
+module _ {A B : Type 0} (next : A → ℕ) (show : A → B) (meant : Operation Row → B) (tell : Meant.ReadOperation → A)
+    (tells : (x : Meant.ReadOperation) → show (tell x) ≡ meant (x .operation)) (goes : (x : Meant.ReadOperation) → next (tell x) ≡ x .next)
+    (c : Config) (log : List ℕ) (shape : Shape) (end : ℕ) (call : ℕ → A)
+    (calls : (at : ℕ) (x : Meant.ReadOperation) → operationCall c log shape end at ≡ answer x → call at ≡ tell x)
   where
-    go : (o : Operation Row) → this .operation ≡ o → Told (operationThen (this .next) (this .operation)) this
-    go (put row) w =
-        record {
-          operation-is = ap (λ (x : Operation Row). operationIn (operationThen (this .next) x)) w ∙ ap answer (sym w);
-          next-is = ap (λ (x : Operation Row). behind (operationThen (this .next) x)) w;
-        }
-    go (remove id) w =
-        record {
-          operation-is = ap (λ (x : Operation Row). operationIn (operationThen (this .next) x)) w ∙ ap answer (sym w);
-          next-is = ap (λ (x : Operation Row). behind (operationThen (this .next) x)) w;
-        }
+    pub record AllTold (at : ℕ) (rs : List A) (x : ReadOperations) : Type 0 where
+      pub operations-are : map show rs ≡ map meant (x .operations)
+      pub ends-there : behindAll next at rs ≡ x .next
 
-module _ (c : Config) (log : List ℕ) (shape : Shape) (end : ℕ) where
-  pub record AllTold (at : ℕ) (rs : List ReadOperation) (x : ReadOperations) : Type 0 where
-    pub operations-are : map operationIn rs ≡ map answer (x .operations)
-    pub ends-there : behindAll at rs ≡ x .next
+    all-told : (rs : List A) (at : ℕ) (x : ReadOperations) → operationsWalked (length rs) c log shape end at ≡ answer x → Answers next call at rs → AllTold at rs x
+    unfolding operationsWalked
+    all-told [] at x e a =
+        let is = answer-injective (record { operations = []; next = at }) x e in
+        subst (AllTold at []) is (record { operations-are = refl; ends-there = refl })
+    all-told (r ∷ rs) at x e a =
+        let s1 = passed (operationCall c log shape end at) _ x e in
+        let s2 = passed (operationsWalked (length rs) c log shape end (s1 .value .next)) _ x (s1 .then) in
+        let is = answer-injective (record { operations = s1 .value .operation ∷ s2 .value .operations; next = s2 .value .next }) x (s2 .then) in
+        let r-is : r ≡ tell (s1 .value) = a .0 ∙ calls at (s1 .value) (s1 .first) in
+        let this : show r ≡ meant (s1 .value .operation) = ap show r-is ∙ tells (s1 .value) in
+        let then : next r ≡ s1 .value .next = ap next r-is ∙ goes (s1 .value) in
+        let others = all-told rs (s1 .value .next) (s2 .value) (s2 .first) (subst (λ (k : ℕ). Answers next call k rs) then (a .1)) in
+        subst (AllTold at (r ∷ rs)) is
+        (record {
+          operations-are = λ i. this i ∷ others .operations-are i;
+          ends-there = ap (λ (k : ℕ). behindAll next k rs) then ∙ others .ends-there;
+        })
 
-  all-told : (rs : List ReadOperation) (at : ℕ) (x : ReadOperations) → operationsWalked (length rs) c log shape end at ≡ answer x → Answers c log shape end at rs
-      → AllTold at rs x
-  unfolding operationsWalked
-  all-told [] at x e a =
-      let is = answer-injective (record { operations = []; next = at }) x e in
-      subst (AllTold at []) is (record { operations-are = refl; ends-there = refl })
-  all-told (r ∷ rs) at x e a =
-      let s1 = passed (operationCall c log shape end at) _ x e in
-      let s2 = passed (operationsWalked (length rs) c log shape end (s1 .value .next)) _ x (s1 .then) in
-      let is = answer-injective (record { operations = s1 .value .operation ∷ s2 .value .operations; next = s2 .value .next }) x (s2 .then) in
-      let t = told-this r (s1 .value) (a .0 ∙ ap operationTold (s1 .first)) in
-      let more : Answers c log shape end (s1 .value .next) rs = subst (λ (k : ℕ). Answers c log shape end k rs) (t .next-is) (a .1) in
-      let others = all-told rs (s1 .value .next) (s2 .value) (s2 .first) more in
-      subst (AllTold at (r ∷ rs)) is
-      (record {
-        operations-are = λ i. t .operation-is i ∷ others .operations-are i;
-        ends-there = ap (λ (k : ℕ). behindAll k rs) (t .next-is) ∙ others .ends-there;
-      })
+-- ---- the answers of `operation_at`
+told-in : (x : Meant.ReadOperation) → operationIn (operationRead x) ≡ answer (x .operation)
+told-in x = go (x .operation)
+  where
+    go : (o : Operation Row) → operationIn (operationThen (x .next) o) ≡ answer o
+    go (put row) = refl
+    go (remove id) = refl
+
+told-behind : (x : Meant.ReadOperation) → behind (operationRead x) ≡ x .next
+told-behind x = go (x .operation)
+  where
+    go : (o : Operation Row) → behind (operationThen (x .next) o) ≡ x .next
+    go (put row) = refl
+    go (remove id) = refl
 
 -- a frame that `frame_at` told
 whole-there : (c : Config) (log : List ℕ) (previous at : ℕ) (frame : Frame) → ReadFrames.Whole frame ≡ frameTold (frameCall c log previous at)
@@ -179,7 +179,7 @@ whole-there c log previous at frame e = go (validate c) refl e
 
 frame-walked : (c : Config) (log : List ℕ) (previous at : ℕ) (frame : Frame) → ReadFrames.Whole frame ≡ frameTold (frameCall c log previous at)
     → (rs : List ReadOperation) → length rs ≡ frame .operations
-    → Answers c log (frame .shape) (operationsEnd (frame .next)) (firstOperation (frame .shape) (frame .start)) rs
+    → Answers behind (λ k. operationTold (operationCall c log (frame .shape) (operationsEnd (frame .next)) k)) (firstOperation (frame .shape) (frame .start)) rs
     → FrameWalked c log previous at frame rs
 frame-walked c log previous at frame e rs many a =
     let w = whole-there c log previous at frame e in
@@ -195,12 +195,27 @@ frame-walked c log previous at frame e rs many a =
     let here : operationsWalked (length rs) c log (frame .shape) (operationsEnd (frame .next)) (firstOperation (frame .shape) (frame .start))
     ≡ answer (record { operations = f .operations; next = operationsEnd (frame .next) }) =
     (λ i. operationsWalked (as-many i) c log (shape-is i) (operationsEnd (frame .next)) (firstOperation (shape-is i) (start-is i))) ∙ all in
-    let t = all-told c log (frame .shape) (operationsEnd (frame .next)) rs (firstOperation (frame .shape) (frame .start)) _ here a in
+    let t = all-told behind operationIn answer operationRead told-in told-behind c log (frame .shape) (operationsEnd (frame .next)) _ (λ k x r. ap operationTold r) rs (firstOperation (frame .shape) (frame .start)) _ here a in
     record { meant = f; there = read .there; operations-are = t .operations-are; ends-there = t .ends-there }
 
--- ---- the same of what C is said
+-- ---- those of the C entry
+module _ (d : ℕ) where
+  said-without : (x : Meant.ReadOperation) → withoutNext (operationSaid d (operationRead x)) ≡ saidOf d (x .operation)
+  said-without x = go (x .operation)
+    where
+      go : (o : Operation Row) → withoutNext (operationSaid d (operationThen (x .next) o)) ≡ saidOf d o
+      go (put row) = refl
+      go (remove id) = refl
+
+  said-behind : (x : Meant.ReadOperation) → nextSaid (operationSaid d (operationRead x)) ≡ x .next
+  said-behind x = go (x .operation)
+    where
+      go : (o : Operation Row) → nextSaid (operationSaid d (operationThen (x .next) o)) ≡ x .next
+      go (put row) = refl
+      go (remove id) = refl
+
+-- it is asked by the kind's number
 module _ (d m ef seed metric : ℕ) (log : List ℕ) (c : Config) (known : settingsOf d m ef seed metric ≡ answer c) where
-  -- an entry is asked by the kind's number
   asked : (shape : Shape) (end at : ℕ) → operationAsked d m ef seed metric log (kindNumber shape) end at ≡ operationCall c log shape end at
   asked shape end at = go-on (settingsOf d m ef seed metric) _ c known ∙ by shape
     where
@@ -208,54 +223,18 @@ module _ (d m ef seed metric : ℕ) (log : List ℕ) (c : Config) (known : setti
       by Single = refl
       by Batch = refl
 
-  pub record SaidThis (r : DoorOperation.Operation) (this : Meant.ReadOperation) : Type 0 where
-    pub operation-is : withoutNext r ≡ saidOf d (this .operation)
-    pub next-is : r .next ≡ this .next
+  asked-said : (shape : Shape) (end at : ℕ) (x : Meant.ReadOperation) → operationCall c log shape end at ≡ answer x
+      → operationSaid d (operationTold (operationAsked d m ef seed metric log (kindNumber shape) end at)) ≡ operationSaid d (operationRead x)
+  asked-said shape end at x e = ap (λ (y : Result Meant.ReadOperation). operationSaid d (operationTold y)) (asked shape end at ∙ e)
 
-  said-this : (r : DoorOperation.Operation) (this : Meant.ReadOperation) → r ≡ operationSaid d (operationRead this) → SaidThis r this
-  said-this r this e =
-      subst (λ (x : DoorOperation.Operation). SaidThis x this) (sym e) (record { operation-is = same (this .next) (this .operation); next-is = then (this .next) (this .operation) })
-    where
-      same : (next : ℕ) (o : Operation Row) → withoutNext (operationSaid d (operationThen next o)) ≡ saidOf d o
-      same next (put row) = refl
-      same next (remove id) = refl
-
-      then : (next : ℕ) (o : Operation Row) → operationSaid d (operationThen next o) .next ≡ next
-      then next (put row) = refl
-      then next (remove id) = refl
-
-  pub record AllSaid (at : ℕ) (rs : List DoorOperation.Operation) (x : ReadOperations) : Type 0 where
-    pub operations-are : map withoutNext rs ≡ map (saidOf d) (x .operations)
-    pub ends-there : behindAllSaid at rs ≡ x .next
-
-  all-said : (shape : Shape) (end : ℕ) (rs : List DoorOperation.Operation) (at : ℕ) (x : ReadOperations) → operationsWalked (length rs) c log shape end at ≡ answer x
-      → SaidAnswers d m ef seed metric log (kindNumber shape) end at rs → AllSaid at rs x
-  unfolding operationsWalked
-  all-said shape end [] at x e a =
-      let is = answer-injective (record { operations = []; next = at }) x e in
-      subst (AllSaid at []) is (record { operations-are = refl; ends-there = refl })
-  all-said shape end (r ∷ rs) at x e a =
-      let s1 = passed (operationCall c log shape end at) _ x e in
-      let s2 = passed (operationsWalked (length rs) c log shape end (s1 .value .next)) _ x (s1 .then) in
-      let is = answer-injective (record { operations = s1 .value .operation ∷ s2 .value .operations; next = s2 .value .next }) x (s2 .then) in
-      let t = said-this r (s1 .value) (a .0 ∙ ap (λ (y : Result Meant.ReadOperation). operationSaid d (operationTold y)) (asked shape end at ∙ s1 .first)) in
-      let more : SaidAnswers d m ef seed metric log (kindNumber shape) end (s1 .value .next) rs =
-      subst (λ (k : ℕ). SaidAnswers d m ef seed metric log (kindNumber shape) end k rs) (t .next-is) (a .1) in
-      let others = all-said shape end rs (s1 .value .next) (s2 .value) (s2 .first) more in
-      subst (AllSaid at (r ∷ rs)) is
-      (record {
-        operations-are = λ i. t .operation-is i ∷ others .operations-are i;
-        ends-there = ap (λ (k : ℕ). behindAllSaid k rs) (t .next-is) ∙ others .ends-there;
-      })
-
-said-walked : (d m ef seed metric : ℕ) (log : List ℕ) (previous at : ℕ) (frame : Door.Frame)
+said-walked : (d m ef seed metric : ℕ) (log : List ℕ) (previous at : ℕ) (frame : SaidFrame.Frame)
     → frame ≡ frameSaid (frameTold (frameAsked d m ef seed metric log previous at)) → (frame .kind ≡ 0 → ⊥)
-    → (rs : List DoorOperation.Operation) → length rs ≡ frame .operations
-    → SaidAnswers d m ef seed metric log (frame .kind) (frame .end) (frame .first) rs
+    → (rs : List Said.Operation) → length rs ≡ frame .operations
+    → Answers nextSaid (λ k. operationSaid d (operationTold (operationAsked d m ef seed metric log (frame .kind) (frame .end) k))) (frame .first) rs
     → SaidWalked d m ef seed metric log previous at frame rs
 said-walked d m ef seed metric log previous at frame e some rs many a = settled (settingsOf d m ef seed metric) refl e
   where
-    kind-of : Door.Frame → ℕ
+    kind-of : SaidFrame.Frame → ℕ
     kind-of f = f .kind
 
     there : (c : Config) → settingsOf d m ef seed metric ≡ answer c → (x : ReadFrame) → frameCall c log previous at ≡ x → frame ≡ frameSaid (frameTold x)
@@ -263,12 +242,14 @@ said-walked d m ef seed metric log previous at frame e some rs many a = settled 
     there c known tooLittle w e = absurd (some (ap kind-of e))
     there c known (wrong why) w e = absurd (some (ap kind-of e))
     there c known (found f next) w e =
-        let all = operations-walked c log previous at f next w in
-        let as-many : length rs ≡ length (f .operations) = many ∙ ap (λ (x : Door.Frame). x .operations) e in
-        let here = ap (λ (k : ℕ). operationsWalked k c log (f .shape) (operationsEnd next) (firstOperation (f .shape) (f .start))) as-many ∙ all in
-        let answers = subst (λ (x : Door.Frame). SaidAnswers d m ef seed metric log (x .kind) (x .end) (x .first) rs) e a in
-        let t = all-said d m ef seed metric log c known (f .shape) (operationsEnd next) rs (firstOperation (f .shape) (f .start)) _ here answers in
-        subst (λ (x : Door.Frame). SaidWalked d m ef seed metric log previous at x rs) (sym e)
+        let end = operationsEnd next in
+        let first = firstOperation (f .shape) (f .start) in
+        let as-many : length rs ≡ length (f .operations) = many ∙ ap (λ (x : SaidFrame.Frame). x .operations) e in
+        let here = ap (λ (k : ℕ). operationsWalked k c log (f .shape) end first) as-many ∙ operations-walked c log previous at f next w in
+        let answers : Answers nextSaid (λ k. operationSaid d (operationTold (operationAsked d m ef seed metric log (kindNumber (f .shape)) end k))) first rs =
+        subst (λ (x : SaidFrame.Frame). Answers nextSaid (λ k. operationSaid d (operationTold (operationAsked d m ef seed metric log (x .kind) (x .end) k))) (x .first) rs) e a in
+        let t = all-told nextSaid withoutNext (saidOf d) (λ x. operationSaid d (operationRead x)) (said-without d) (said-behind d) c log (f .shape) end _ (asked-said d m ef seed metric log c known (f .shape) end) rs first _ here answers in
+        subst (λ (x : SaidFrame.Frame). SaidWalked d m ef seed metric log previous at x rs) (sym e)
         (record {
           config = c;
           settings-are = known;

@@ -18,8 +18,8 @@ use Rattle.log.specs.declared.ReadOperation.{ReadOperation}
 use Rattle.log.specs.declared.ReadOperation.the-variants as Operations
 use Rattle.log.specs.declared.ReadFrame.the-variants as ReadFrames
 use Rattle.log.specs.Told.{operationThen, operationTold, frameTold}
-use Rattle.lambspool.specs.declared.Frame as Door
-use Rattle.lambspool.specs.declared.Operation as DoorOperation
+use Rattle.lambspool.specs.declared.Frame as SaidFrame
+use Rattle.lambspool.specs.declared.Operation as Said
 use Rattle.lambspool.specs.Asked.{settingsOf, frameAsked, operationAsked}
 use Rattle.lambspool.specs.Said.{frameSaid, operationSaid}
 
@@ -37,23 +37,22 @@ unfoldable pub framesWalked : ℕ → Config → List ℕ → ℕ → ℕ → Fr
 framesWalked zero c log previous at = record { frames = []; ended = tail at }
 framesWalked (suc n) c log previous at = goOn (framesWalked n c log) at (frameCall c log previous at)
 
--- ---- the walk of a frame's operations, over the answers of the code
--- where the next one begins
+-- ---- the answers of calls one after another, each at the byte that the one before names as the next
+-- `call at` is what the contract says of a call at that byte
+abbrev pub Answers : {A : Type 0} → (A → ℕ) → (ℕ → A) → ℕ → List A → Type 0
+Answers next call at [] = Unit
+Answers next call at (r ∷ rs) = (r ≡ call at) × Answers next call (next r) rs
+
+abbrev pub behindAll : {A : Type 0} → (A → ℕ) → ℕ → List A → ℕ
+behindAll next at [] = at
+behindAll next at (r ∷ rs) = behindAll next (next r) rs
+
+-- ---- `operation_at`: where the next one begins, and the operation that it tells
 abbrev pub behind : ReadOperation → ℕ
 behind (Operations.Put r next) = next
 behind (Operations.Remove id next) = next
 behind (Operations.Refused why) = 0
 
--- each is what the contract says (`log-operation-at-one-answer`), from where the one before ended
-abbrev pub Answers : Config → List ℕ → Shape → ℕ → ℕ → List ReadOperation → Type 0
-Answers c log shape end at [] = Unit
-Answers c log shape end at (r ∷ rs) = (r ≡ operationTold (operationCall c log shape end at)) × Answers c log shape end (behind r) rs
-
-abbrev pub behindAll : ℕ → List ReadOperation → ℕ
-behindAll at [] = at
-behindAll at (r ∷ rs) = behindAll (behind r) rs
-
--- the operation that an answer tells
 abbrev pub operationIn : ReadOperation → Result (Operation Row)
 operationIn (Operations.Put r next) = answer (put r)
 operationIn (Operations.Remove id next) = answer (remove (id .0))
@@ -64,33 +63,27 @@ pub record FrameWalked (c : Config) (log : List ℕ) (previous at : ℕ) (frame 
   pub meant : Replays.Frame Row
   pub there : frameAt c log previous at ≡ found meant (frame .next)
   pub operations-are : map operationIn rs ≡ map answer (meant .operations)
-  pub ends-there : behindAll (firstOperation (frame .shape) (frame .start)) rs ≡ operationsEnd (frame .next)
+  pub ends-there : behindAll behind (firstOperation (frame .shape) (frame .start)) rs ≡ operationsEnd (frame .next)
 
--- ---- the same of the C entries, where `kind`, `end` and `first` are the frame's own
-abbrev pub SaidAnswers : ℕ → ℕ → ℕ → ℕ → ℕ → List ℕ → ℕ → ℕ → ℕ → List DoorOperation.Operation → Type 0
-SaidAnswers d m ef seed metric log kind end at [] = Unit
-SaidAnswers d m ef seed metric log kind end at (r ∷ rs) =
-    (r ≡ operationSaid d (operationTold (operationAsked d m ef seed metric log kind end at))) × SaidAnswers d m ef seed metric log kind end (r .next) rs
+-- ---- the same of the C entry, whose answer has its values by name
+abbrev pub nextSaid : Said.Operation → ℕ
+nextSaid r = r .next
 
-abbrev pub behindAllSaid : ℕ → List DoorOperation.Operation → ℕ
-behindAllSaid at [] = at
-behindAllSaid at (r ∷ rs) = behindAllSaid (r .next) rs
-
--- where the next one begins apart
-abbrev pub withoutNext : DoorOperation.Operation → DoorOperation.Operation
+-- all but where the next one begins
+abbrev pub withoutNext : Said.Operation → Said.Operation
 withoutNext r =
     record { number = r .number; tag = r .tag; id = r .id; vector = r .vector; caption = r .caption; «caption_length» = r .«caption_length»; next = 0 }
 
-abbrev pub saidOf : ℕ → Operation Row → DoorOperation.Operation
+abbrev pub saidOf : ℕ → Operation Row → Said.Operation
 saidOf d o = operationSaid d (operationThen 0 o)
 
-pub record SaidWalked (d m ef seed metric : ℕ) (log : List ℕ) (previous at : ℕ) (frame : Door.Frame) (rs : List DoorOperation.Operation) : Type 0 where
+pub record SaidWalked (d m ef seed metric : ℕ) (log : List ℕ) (previous at : ℕ) (frame : SaidFrame.Frame) (rs : List Said.Operation) : Type 0 where
   pub config : Config
   pub settings-are : settingsOf d m ef seed metric ≡ answer config
   pub meant : Replays.Frame Row
   pub there : frameAt config log previous at ≡ found meant (frame .next)
   pub operations-are : map withoutNext rs ≡ map (saidOf d) (meant .operations)
-  pub ends-there : behindAllSaid (frame .first) rs ≡ frame .end
+  pub ends-there : behindAll nextSaid (frame .first) rs ≡ frame .end
 
 pub record LogWalked : Type 0 where
   pub operations-walked : (c : Config) (log : List ℕ) (previous at : ℕ) (f : Replays.Frame Row) (next : ℕ) → frameCall c log previous at ≡ found f next
@@ -98,15 +91,15 @@ pub record LogWalked : Type 0 where
       ≡ answer (record { operations = f .operations; next = operationsEnd next })
   -- as many frames as the log has bytes are enough
   pub frames-walked : (c : Config) (log : List ℕ) → validate c ≡ answer tt → framesWalked (length log) c log 0 0 ≡ framesOf c log
-  -- in the code: a frame that `frame_at` finds, as its contract says (`frame-at-one-answer`), and the answers of `operation_at`
+  -- in the code: a frame that `frame_at` finds (`frame-at-one-answer`), and the answers of `operation_at` (`log-operation-at-one-answer`)
   pub frame-walked : (c : Config) (log : List ℕ) (previous at : ℕ) (frame : Frame) → ReadFrames.Whole frame ≡ frameTold (frameCall c log previous at)
       → (rs : List ReadOperation) → length rs ≡ frame .operations
-      → Answers c log (frame .shape) (operationsEnd (frame .next)) (firstOperation (frame .shape) (frame .start)) rs
+      → Answers behind (λ k. operationTold (operationCall c log (frame .shape) (operationsEnd (frame .next)) k)) (firstOperation (frame .shape) (frame .start)) rs
       → FrameWalked c log previous at frame rs
   -- from C: a frame of any kind that `lambspool_frame_at` finds (`door-frame-at-one-answer`), and the answers of `lambspool_operation_at`
-  -- (`door-operation-at-one-answer`): each is the next operation of the frame, by its tag, ID and places
-  pub said-walked : (d m ef seed metric : ℕ) (log : List ℕ) (previous at : ℕ) (frame : Door.Frame)
+  -- (`door-operation-at-one-answer`) with the frame's own kind, end and first place
+  pub said-walked : (d m ef seed metric : ℕ) (log : List ℕ) (previous at : ℕ) (frame : SaidFrame.Frame)
       → frame ≡ frameSaid (frameTold (frameAsked d m ef seed metric log previous at)) → (frame .kind ≡ 0 → ⊥)
-      → (rs : List DoorOperation.Operation) → length rs ≡ frame .operations
-      → SaidAnswers d m ef seed metric log (frame .kind) (frame .end) (frame .first) rs
+      → (rs : List Said.Operation) → length rs ≡ frame .operations
+      → Answers nextSaid (λ k. operationSaid d (operationTold (operationAsked d m ef seed metric log (frame .kind) (frame .end) k))) (frame .first) rs
       → SaidWalked d m ef seed metric log previous at frame rs
