@@ -1,12 +1,12 @@
 -- `list_store` shows the answer of the recovery of the two files in the room, hands on what that recovery left, and tells how many nodes
 -- were shown.
-use Prim.Native.Nat.{_+_, _-_}
+use Prim.Native.Nat.{ℕ, _+_, _-_}
 use native.Mathlib.Omega.{arith}
 use mathlib.Core.Path.{_≡_, sym, ap, _∙_}
 use Rattle.rows.specs.Lent.{rowsLent}
 use Rattle.recovery.specs.declared.Recovery.{Recovery}
 use Rattle.listing_text.specs.Files.{listingRows}
-use Rattle.listing.specs.Shown.{logAt, fileIn, Recovers, nodesOf}
+use Rattle.listing.specs.Shown.{logAt, fileIn, Recovers, nodesOf, Listed}
 use Rattle.listing.proofs.Parts.{in-room}
 use borrow.Author.Needs.{needs}
 use Rattle.listing.proofs.list_store.Statement.{statement}
@@ -59,42 +59,28 @@ same-length c = let given = recovery (c .before .before .before .before .before 
 same-length-2 : tie.Need-same-length-2
 same-length-2 c = let given = recovery (c .before .before .before .before .before .before .before .before) in omega (arith, given .recover .kept .1 .1 .1 .0)
 
+listed : (c : tie.After-recover) (n : ℕ) → n ≡ nodesOf (c .recover .result) (c .recover .last .1 .1 .0)
+    → Listed (fileIn (start c .args .snapshot) (start c .args .room .now)) (fileIn (start c .args .log) (start c .args .room .now)) n
+listed c n e = record { answer = c .recover .result; words = c .recover .last .1 .1 .0; recovers = recovers c; all-nodes = e }
+
 returns : tie.Need-returns
 returns c =
-    let listed = c .before .before in
-    let known = listed .before .before .before .before in
+    let nodes = c .before .before in
+    let known = nodes .before .before .before .before in
     let given = recovery (known .before .before) in
-    let words = given .recover .last .1 .1 .0 in
-    record {
-      answer = given .recover .result;
-      words = words;
-      recovers = recovers given;
-      all-nodes = listed .list-nodes .ensures ∙ sym (ap (λ (x : Recovery). nodesOf x words) (known .answer .given .1));
-    }
+    listed given (nodes .list-nodes .result) (nodes .list-nodes .ensures ∙ sym (ap (λ (x : Recovery). nodesOf x (given .recover .last .1 .1 .0)) (known .answer .given .1)))
 
 returns-2 : tie.Need-returns-2
 returns-2 c =
     let shown = c .before .before in
     let given = recovery shown in
-    let words = given .recover .last .1 .1 .0 in
-    record {
-      answer = given .recover .result;
-      words = words;
-      recovers = recovers given;
-      all-nodes = shown .show-answer .ensures ∙ sym (ap (λ (x : Recovery). nodesOf x words) (c .enum-told .given .1));
-    }
+    listed given (shown .show-answer .result) (shown .show-answer .ensures ∙ sym (ap (λ (x : Recovery). nodesOf x (given .recover .last .1 .1 .0)) (c .enum-told .given .1)))
 
 returns-3 : tie.Need-returns-3
 returns-3 c =
     let shown = c .before .before in
     let given = recovery shown in
-    let words = given .recover .last .1 .1 .0 in
-    record {
-      answer = given .recover .result;
-      words = words;
-      recovers = recovers given;
-      all-nodes = shown .show-answer .ensures ∙ sym (ap (λ (x : Recovery). nodesOf x words) (c .enum-told2 .given .1));
-    }
+    listed given (shown .show-answer .result) (shown .show-answer .ensures ∙ sym (ap (λ (x : Recovery). nodesOf x (given .recover .last .1 .1 .0)) (c .enum-told2 .given .1)))
 
 pub list-store-spec : {M : Type 1} → statement M
 list-store-spec =
