@@ -529,7 +529,7 @@ static int check(struct store *s)
     if (r->tail == 0)
         say("The log has %s and no tail.\n", counted(r->keep, "byte"));
     else {
-        say("The log is read up to byte %zu; behind it is a tail of %s, a frame that is not whole, which is not read.\n", r->keep, counted(r->tail, "byte"));
+        say("The log is read up to byte %zu; behind it is a tail of %s, no whole frame, which is not read.\n", r->keep, counted(r->tail, "byte"));
         tell_tail(s->log.bytes + r->keep, r->tail, (f.count != 0 ? f.last : snapshot.sequence) + 1);
     }
     say("The settings are %s, the %s metric, M %zu, ef %zu, seed %" PRIu64 ".\n",

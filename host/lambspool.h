@@ -3,15 +3,15 @@
  * A port of parts of vecnook, Copyright (c) 2026 Gayoung; MIT licence, whose text is in the repository's NOTICE.
  *
  * A store is a snapshot and a log, and beside them a graph cache that can be missing. These calls recover a store, read a snapshot or
- * a cache, look at what was read, and write snapshots and frames of the log. Each is proved to do what its definition says
+ * a cache, look at what was read, walk a log, and write snapshots and frames of the log. Each is proved to do what its definition says
  * (crates/lambspool; docs/BELIEVE.md tells which definitions those are). Link liblambspool.a and nothing else:
  *
  *     gcc host.c -I DIR DIR/liblambspool.a -o host           (tools/archive DIR leaves both files in DIR)
  *     gcc host.c $(pkg-config --cflags --libs lambspool) -o host                     (after make -C host install)
  *
  * The host reads and writes files and holds the lock; no call here knows of files. docs/PLAYOUT.md has what that asks of a host.
- * host/caption.c is a short whole host: it recovers a store and prints the caption of an ID. host/lambspool.c is a program over all of
- * these calls. The playout host's three calls are in playout.h; both can be linked into one program.
+ * host/caption.c is a short whole host: it recovers a store and prints the caption of an ID. host/lambspool.c is a longer one,
+ * which lists, checks and writes stores. The playout host's three calls are in playout.h; both can be linked into one program.
  *
  * What every call asks
  *   Any numbers and any bytes may be handed in. Of a pointer a call asks what C asks of memory that is handed over: it can be read, or
@@ -115,7 +115,7 @@ enum lambspool_number {
     LAMBSPOOL_ROW_DOES_NOT_FIT = 31,     /* a row's part, or a cache's byte, is not inside the bytes handed in; to a writer also: a deleted row with
                                             a caption length, or a length over 16,384 */
     LAMBSPOOL_OUTPUT_TOO_SHORT = 32,     /* the room lent */
-    LAMBSPOOL_REQUEST_MALFORMED = 33,    /* operations handed to an encoder */
+    LAMBSPOOL_REQUEST_MALFORMED = 33,    /* operations handed to an encoder, or a kind of frame that is none */
     LAMBSPOOL_TOO_LARGE = 34,            /* the snapshot to be written */
     LAMBSPOOL_FILE_UNREADABLE = 35,      /* given by no call here: the listing's own, for a host that cannot open or read a file */
     /* of a cache, to 51 */
@@ -220,7 +220,7 @@ typedef struct lambspool_recovery {
     size_t replayed;          /* frames of the log that were taken */
     size_t skipped;           /* frames at or below the snapshot's sequence: already inside, so not taken again */
     size_t keep;              /* the byte behind the last whole frame */
-    size_t tail;              /* bytes from there to the log's end: a frame that is not whole, not read */
+    size_t tail;              /* bytes from there to the log's end: no whole frame, not read */
     size_t size;
 } lambspool_recovery;
 
@@ -260,7 +260,7 @@ lambspool_frame *lambspool_frame_at(lambspool_frame *result, size_t dimensions, 
 /* Reads the frame whose first byte is `at`, its CRCs and all its operations. Settings are those of the snapshot beside the log. To
  * walk a log, begin at byte 0 with `previous` 0; go on at the `next` of each frame, with its sequence as `previous`.
  *
- * Test number, then kind: where both are 0, the log ends at `at`, or fewer bytes are left than the frame has. That is a tail and no
+ * Test number, then kind: where both are 0, the log ends at `at` or before it, or fewer bytes are left than the frame has. That is a tail and no
  * refusal. Refused by 5 to 8, then 21, 22, 23, 24, 25, as operations are read 4, 26, 12 to 15, then 16. In both cases every other
  * field is 0. A frame that is found here a recovery can still refuse, by 19, 27, 28 or 29. */
 

@@ -121,9 +121,9 @@ int main(int count, char **words)
     uint8_t frame[LAMBSPOOL_DELETE_FRAME];
     const char *why;
     if (count == 2 && (strcmp(words[1], "--help") == 0 || strcmp(words[1], "-h") == 0))
-        return fputs(help, stdout) < 0 || fflush(stdout) != 0 ? NOTHING_CHANGED : DONE;
+        return fputs(help, stdout) < 0 || fflush(stdout) != 0 ? stop(NOTHING_CHANGED, "standard output cannot be written") : DONE;
     if (count == 2 && (strcmp(words[1], "--version") == 0 || strcmp(words[1], "-V") == 0))
-        return puts("withdraw " PLAYOUT_VERSION) < 0 || fflush(stdout) != 0 ? NOTHING_CHANGED : DONE;
+        return puts("withdraw " PLAYOUT_VERSION) < 0 || fflush(stdout) != 0 ? stop(NOTHING_CHANGED, "standard output cannot be written") : DONE;
     why = unasked(count, words, &a);
     if (why != NULL)
         return stop(NOTHING_CHANGED, why);

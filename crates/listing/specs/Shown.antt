@@ -1,11 +1,11 @@
 -- What the program must show before it reads a file and before it shows a line: which file stands where, whose answer it is, and that the
 -- line is what the call for it made.
-use Prim.Native.Nat.{ℕ}
+use Prim.Native.Nat.{ℕ, _≤_}
 use mathlib.Core.Path.{_≡_}
 use mathlib.Core.Bool.{cond}
 use mathlib.Core.List.{List}
 use lib.Dec.{eqb, ltb}
-use lib.ListN.{take, drop}
+use lib.ListN.{length, take, drop}
 use Rattle.refusal.specs.Refusal.{Result, writtenTold}
 use Rattle.refusal.specs.declared.Written.{Written}
 use Rattle.rows.specs.Lent.{rowsLent, rowsLentPlain}
@@ -14,7 +14,7 @@ use Rattle.recovery.specs.Told.{recoveryAnswer}
 use Rattle.recovery.specs.declared.Recovery.{Recovery}
 use Rattle.recovery.specs.declared.Recovery.the-variants as Answers
 use Rattle.listing_text.specs.Lines.{ascii}
-use Rattle.listing_text.specs.Files.{listingFileLimit, listingRows}
+use Rattle.listing_text.specs.Files.{listingFileLimit, listingRows, longestLine}
 use Rattle.listing.specs.declared.Found.{Found}
 
 -- one room holds both files: the snapshot from its first byte on, the log from here on
@@ -37,9 +37,10 @@ pub record Recovers (snapshot log : List ℕ) (answer : Recovery) (words : List 
   pub answer-is : answer ≡ recoveryAnswer log (recoverCall rows active snapshot log)
   pub words-are : words ≡ recoverTables rows active (recoverCall rows active snapshot log) .rows
 
--- the call was lent some output, said this, and left the line so
+-- the call was lent output that every line fits, said this, and left the line so
 pub record Made (call : List ℕ → Result (List ℕ)) (written : Written) (line : List ℕ) : Type 0 where
   pub out : List ℕ
+  pub room : longestLine ≤ length out
   pub result-is : written ≡ writtenTold (call out)
   pub line-is : line ≡ outputAfter out (call out)
 

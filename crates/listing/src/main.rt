@@ -70,6 +70,7 @@ fn read(name: &[u8], room: &mut [u8], at: usize) -> Found
 }
 
 fn read_to(name: &[u8], room: &mut [u8], at: usize) -> usize
+    requires { ⌜ now name ≡ nameAt at ⌝ }
     requires { ⌜ at + listingFileLimit ≤ length (now room) ⌝ }
     ensures { λ _. ⌜ length (now (room .exit)) ≡ length (now (room .entry)) ⌝ }
 {
@@ -132,6 +133,7 @@ fn list_nodes<'a>(
 ) -> usize
     requires { ⌜ Recovers (now snapshot) (now log) (Recovered info) (now rows) ⌝ }
     requires { ⌜ first ≡ 0 ⌝ }
+    requires { ⌜ longestLine ≤ length (now line) ⌝ }
     ensures { λ r. ⌜ r ≡ nodesListed (info .records) (now (rows .entry)) ⌝ }
 {
     if rows::rows_lent_plain(rows) < info.records {
@@ -154,7 +156,9 @@ fn list_nodes<'a>(
     i
 }
 
-fn refuse_file(line: &mut [u8]) {
+fn refuse_file(line: &mut [u8])
+    requires { ⌜ longestLine ≤ length (now line) ⌝ }
+{
     let written = listing_text::refusal_line(Stopped::File, line);
     show_file(written, line);
 }

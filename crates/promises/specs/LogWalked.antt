@@ -1,5 +1,6 @@
 -- A log walked by its calls gives what the definitions decode it to: `frame_at` from byte 0 on its frames, and of each frame that it
--- finds `operation_at` its operations, none left out, none twice, none refused, to the frame's end. So do the two entries for C.
+-- finds `operation_at` its operations, none left out, none twice, none refused, to the frame's end. Of
+-- a frame that `lambspool_frame_at` finds, `lambspool_operation_at` does so from C too.
 use Prim.Native.Nat.{ℕ, zero, suc}
 use mathlib.Core.Path.{_≡_}
 use mathlib.Core.List.{List, [], _∷_, map}

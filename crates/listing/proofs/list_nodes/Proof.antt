@@ -19,14 +19,14 @@ returns : tie.Need-returns Inv-loop μ-loop
 returns c =
     let lent = c .before .before in
     let start = lent .before .before .before .before .before in
-    none-listed (start .args .info .records) (start .args .rows .now) (start .args .first) (start .pre .1) (omega (arith, lent .rows-lent-plain .ensures, c .if1 .taken))
+    none-listed (start .args .info .records) (start .args .rows .now) (start .args .first) (start .pre .1 .0) (omega (arith, lent .rows-lent-plain .ensures, c .if1 .taken))
 
 show-node-requires : tie.Need-show-node-requires Inv-loop μ-loop
 show-node-requires c κs =
     let called = c .before .before .before in
     let turn = called .before .before .before .before in
     let start = turn .before .before .before .before .before .before .before .before in
-    (start .pre .0, record { out = turn .loop .line; result-is = called .node-line .ensures .0; line-is = called .node-line .ensures .1 })
+    (start .pre .0, record { out = turn .loop .line; room = omega (arith, start .pre .1 .1, turn .loop .inv .1); result-is = called .node-line .ensures .0; line-is = called .node-line .ensures .1 })
 
 returns-2 : tie.Need-returns-2 Inv-loop μ-loop
 returns-2 c =

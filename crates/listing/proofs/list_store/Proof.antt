@@ -35,7 +35,7 @@ show-answer-requires : tie.Need-show-answer-requires
 show-answer-requires c κs =
     let told = c .before .before .before .before in
     let given = told .before .before .before .before .before .before in
-    (recovers given, record { out = start given .args .line .now; result-is = told .answer-line .ensures .0; line-is = told .answer-line .ensures .1 })
+    (recovers given, record { out = start given .args .line .now; room = start given .pre .1 .1 .1 .1 .1 .1 .1; result-is = told .answer-line .ensures .0; line-is = told .answer-line .ensures .1 })
 
 list-nodes-requires : tie.Need-list-nodes-requires
 list-nodes-requires c κs =
@@ -50,7 +50,7 @@ list-nodes-requires c κs =
         answer-is = sym (known .answer .given .1) ∙ given .recover .ensures .0;
         words-are = given .recover .ensures .1 .0;
       },
-      shown .show-answer .ensures,
+      (shown .show-answer .ensures, (let told = shown .before .before .before .before .before in omega (arith, s .pre .1 .1 .1 .1 .1 .1 .1, told .answer-line .kept .1))),
     )
 
 same-length : tie.Need-same-length
