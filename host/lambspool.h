@@ -1,16 +1,17 @@
-/* lambspool.h: stores of any legal size, from C and C++, version 0.1.0
+/* lambspool.h: stores of any legal size, from C and C++, version 0.2.0
  *
  * A port of parts of vecnook, Copyright (c) 2026 Gayoung; MIT licence, whose text is in the repository's NOTICE.
  *
  * A store is a snapshot and a log, and beside them a graph cache that can be missing. These calls recover a store, read a snapshot or
- * a cache, look at what was read, and write snapshots and frames of the log. Each is proved to do what its definition says
+ * a cache, look at what was read, walk a log, and write snapshots and frames of the log. Each is proved to do what its definition says
  * (crates/lambspool; docs/BELIEVE.md tells which definitions those are). Link liblambspool.a and nothing else:
  *
  *     gcc host.c -I DIR DIR/liblambspool.a -o host           (tools/archive DIR leaves both files in DIR)
  *     gcc host.c $(pkg-config --cflags --libs lambspool) -o host                     (after make -C host install)
  *
  * The host reads and writes files and holds the lock; no call here knows of files. docs/PLAYOUT.md has what that asks of a host.
- * host/lambspool.c is a program over these calls. The playout host's three calls are in playout.h; both can be linked into one program.
+ * host/caption.c is a short whole host: it recovers a store and prints the caption of an ID. host/lambspool.c is a longer one,
+ * which lists, checks and writes stores. The playout host's three calls are in playout.h; both can be linked into one program.
  *
  * What every call asks
  *   Any numbers and any bytes may be handed in. Of a pointer a call asks what C asks of memory that is handed over: it can be read, or
@@ -21,11 +22,18 @@
  *
  * What every call gives
  *   `number` is 0 if nothing is refused, and else one of the numbers below. What a refused call leaves is said at each call.
- *   A result of more than 16 bytes is written to `*result`, whose address is given back; `*result` need not be set before.
+ *   A result of more than 16 bytes is written to `*result`, whose address is given back; `*result` need not be set before. Every field
+ *   of it is set, of a refused call too; what the bytes between two fields (padding) hold then is not said.
  *
  * What no call does
  *   No call keeps a pointer, allocates, blocks, sets errno, or has state: any number of calls may run at once in threads, each with
- *   tables of its own. The longest, a recovery with a log of 1 GiB, takes a second or two.
+ *   tables of its own.
+ *
+ * How long a call takes
+ *   Time grows with the bytes handed in and with the rows lent; for the longest files that is a second or two. Of a log it grows with
+ *   the operations too, since each looks for its ID among the live ones, in a tree of up to 64 levels. A log of 1 GiB has room for
+ *   119 million deletes in batches: with 95,000 live records and random IDs, none of them live, its recovery took 20 seconds of a
+ *   processor, and two minutes with IDs that were chosen to make the tree deep.
  *
  * Stack
  *   Leave 64 KiB. tests/the_program runs every call on no more. */
@@ -39,8 +47,11 @@
 extern "C" {
 #endif
 
-#define LAMBSPOOL_VERSION "0.1.0"
-#define LAMBSPOOL_VERSION_NUMBER 0x000100 /* major, minor, patch: 16, 8 and 8 bits */
+/* The library takes sizes of 8 bytes: where size_t has others, this does not compile. */
+typedef char lambspool_size_t_has_8_bytes[sizeof(size_t) == 8 ? 1 : -1];
+
+#define LAMBSPOOL_VERSION "0.2.0"
+#define LAMBSPOOL_VERSION_NUMBER 0x000200 /* major, minor, patch: 16, 8 and 8 bits */
 
 /* ---- bounds */
 
@@ -52,6 +63,10 @@ extern "C" {
 #define LAMBSPOOL_MAX_CAPTION 16384      /* bytes of a caption */
 #define LAMBSPOOL_MAX_FRAME 8388620      /* bytes of a frame: a payload of 17 to 8,388,608 and 12 around it */
 #define LAMBSPOOL_MAX_OPERATIONS 1024    /* operations of a batch, at least 1 */
+
+/* Bytes beside what a caller counts itself. */
+#define LAMBSPOOL_SNAPSHOT_AROUND 56 /* of a full snapshot around its records: it has 56 + `size` bytes */
+#define LAMBSPOOL_DELETE_FRAME 29    /* of a frame of one delete; in playout.h too */
 
 /* Tables that suffice for every legal store: 1,600,000 bytes of rows, 400,000 of active nodes, 800,000 of starts. */
 #define LAMBSPOOL_ROW_WORDS (2 * LAMBSPOOL_MAX_RECORDS)
@@ -90,7 +105,7 @@ enum lambspool_number {
     LAMBSPOOL_WRONG_LENGTH_CRC = 21,     /* of a frame */
     LAMBSPOOL_WRONG_LENGTH = 22,         /* of a payload: not 17 to 8,388,608 */
     LAMBSPOOL_WRONG_PAYLOAD_CRC = 23,    /* of a frame */
-    LAMBSPOOL_WRONG_SEQUENCE = 24,       /* 0, or not one more than the frame before */
+    LAMBSPOOL_WRONG_SEQUENCE = 24,       /* of a frame: 0, of the first one too, or not one more than the frame before; to an encoder: 0 */
     LAMBSPOOL_WRONG_BATCH_COUNT = 25,    /* not 1 to 1024, or more than can follow */
     LAMBSPOOL_UNKNOWN_OPERATION = 26,    /* of a frame */
     LAMBSPOOL_GAP_AFTER_SNAPSHOT = 27,   /* the first frame to replay is not the snapshot's next */
@@ -100,20 +115,21 @@ enum lambspool_number {
     LAMBSPOOL_ROW_DOES_NOT_FIT = 31,     /* a row's part, or a cache's byte, is not inside the bytes handed in; to a writer also: a deleted row with
                                             a caption length, or a length over 16,384 */
     LAMBSPOOL_OUTPUT_TOO_SHORT = 32,     /* the room lent */
-    LAMBSPOOL_REQUEST_MALFORMED = 33,    /* operations handed to an encoder */
+    LAMBSPOOL_REQUEST_MALFORMED = 33,    /* operations handed to an encoder, or a kind of frame that is none */
     LAMBSPOOL_TOO_LARGE = 34,            /* the snapshot to be written */
     LAMBSPOOL_FILE_UNREADABLE = 35,      /* given by no call here: the listing's own, for a host that cannot open or read a file */
-    LAMBSPOOL_STALE_CACHE = 40,          /* its header is not this snapshot's */
-    LAMBSPOOL_WRONG_NODE_COUNT = 41,     /* of a cache, and so to 50 */
-    LAMBSPOOL_WRONG_ENTRY = 42,
-    LAMBSPOOL_MISSING_ENTRY = 43,
-    LAMBSPOOL_WRONG_RNG_STATE = 44,
-    LAMBSPOOL_COUNT_OVER_BYTES = 45,
-    LAMBSPOOL_WRONG_LEVELS = 46,
-    LAMBSPOOL_WRONG_DEGREE = 47,
-    LAMBSPOOL_WRONG_NEIGHBOUR = 48,
-    LAMBSPOOL_EDGE_TO_MISSING_LEVEL = 49,
-    LAMBSPOOL_ENTRY_BELOW_HIGHEST = 50,
+    /* of a cache, to 51 */
+    LAMBSPOOL_STALE_CACHE = 40,          /* its header is not this snapshot's: magic, version (not 1), the snapshot's CRC, or its sequence */
+    LAMBSPOOL_WRONG_NODE_COUNT = 41,     /* not `count`, or over 100,000 */
+    LAMBSPOOL_WRONG_ENTRY = 42,          /* the entry is not below the count */
+    LAMBSPOOL_MISSING_ENTRY = 43,        /* no entry, though there are nodes */
+    LAMBSPOOL_WRONG_RNG_STATE = 44,      /* not the seed + count * 0x9e3779b97f4a7c15, modulo 2^64 */
+    LAMBSPOOL_COUNT_OVER_BYTES = 45,     /* more nodes than can follow: 5 bytes are the least of a node */
+    LAMBSPOOL_WRONG_LEVELS = 46,         /* of a node: not 1 to 33 */
+    LAMBSPOOL_WRONG_DEGREE = 47,         /* neighbours of a node: over 2 M at level 0, or over M above */
+    LAMBSPOOL_WRONG_NEIGHBOUR = 48,      /* not below the count, the node itself, or twice in its list */
+    LAMBSPOOL_EDGE_TO_MISSING_LEVEL = 49, /* a neighbour at a level that it does not have */
+    LAMBSPOOL_ENTRY_BELOW_HIGHEST = 50,  /* a node has more levels than the entry */
     LAMBSPOOL_TOO_FEW_STARTS = 51        /* lent: see lambspool_read_cache */
 };
 
@@ -141,10 +157,15 @@ enum lambspool_number {
 #define LAMBSPOOL_ROW_CAPTION_LENGTH(word) ((size_t)((uint64_t)(word) >> 47 & 0x7fff))
 #define LAMBSPOOL_ROW_OFFSET(word) ((size_t)((uint64_t)(word) & 0x7fffffffffff)) /* of the first coordinate byte in the source */
 
-/* An operation is the ID, then a packed word: of a put, where its caption lies in the captions handed in; of a delete, 0. A length
- * that has no place in the word becomes the largest that has, which is refused by 14 as the length itself would be. LAMBSPOOL_PUT evaluates its length twice. */
-#define LAMBSPOOL_PUT(caption_length, caption_offset) \
-    ((uint64_t)1 << 63 | (uint64_t)((caption_length) > 0x7fff ? 0x7fff : (caption_length)) << 48 | ((uint64_t)(caption_offset) & 0xffffffffffff))
+/* An operation is the ID, then a packed word: LAMBSPOOL_PUT says where a put's caption lies in the captions handed in; a delete has
+ * LAMBSPOOL_DELETE. A length or an offset that has no place in the word, a negative one too, becomes the largest that has, which is
+ * refused by 14 or by 33 as it would be itself. Each is evaluated once; in C it is no constant, so not for a static initializer. */
+static inline uint64_t lambspool_put(uint64_t caption_length, uint64_t caption_offset)
+{
+    const uint64_t longest = 0x7fff, last = 0xffffffffffff;
+    return (uint64_t)1 << 63 | (caption_length < longest ? caption_length : longest) << 48 | (caption_offset < last ? caption_offset : last);
+}
+#define LAMBSPOOL_PUT(caption_length, caption_offset) lambspool_put((uint64_t)(caption_length), (uint64_t)(caption_offset))
 #define LAMBSPOOL_DELETE ((uint64_t)0)
 
 /* ---- the CRC-32 of IEEE 802.3 */
@@ -171,7 +192,7 @@ typedef struct lambspool_snapshot {
     uint64_t sequence;        /* of the last change that is inside */
     size_t records;           /* live and deleted: nodes 0 to records - 1 */
     size_t active;            /* live */
-    size_t size;              /* bytes of the records, were they written; a full snapshot has 56 more */
+    size_t size;              /* bytes of the records, were they written; a full snapshot has LAMBSPOOL_SNAPSHOT_AROUND more */
 } lambspool_snapshot;
 
 lambspool_snapshot *lambspool_read_snapshot(lambspool_snapshot *result, const void *bytes, size_t length,
@@ -181,7 +202,7 @@ lambspool_snapshot *lambspool_read_snapshot(lambspool_snapshot *result, const vo
  * Rows lent are the least of row_words / 2, active_entries and 100,000; a snapshot with more records is refused by 19.
  *
  * Accepted: rows holds a row a record in node order, active the live nodes by rising ID, and both zeros behind.
- * Refused, by 1 to 19: both tables are all zeros, and so is *result but for the number. */
+ * Refused, by 1 to 19: both tables are all zeros, and so is every field but number. */
 
 typedef struct lambspool_recovery {
     uint32_t number;
@@ -199,7 +220,7 @@ typedef struct lambspool_recovery {
     size_t replayed;          /* frames of the log that were taken */
     size_t skipped;           /* frames at or below the snapshot's sequence: already inside, so not taken again */
     size_t keep;              /* the byte behind the last whole frame */
-    size_t tail;              /* bytes from there to the log's end: a frame that is not whole, not read */
+    size_t tail;              /* bytes from there to the log's end: no whole frame, not read */
     size_t size;
 } lambspool_recovery;
 
@@ -209,8 +230,59 @@ lambspool_recovery *lambspool_recover(lambspool_recovery *result, const void *sn
  * record of the snapshot and for each put that was taken. With LAMBSPOOL_ROW_WORDS and LAMBSPOOL_ACTIVE_ENTRIES lent no legal store
  * is refused by 19.
  *
- * Accepted: source and at are 0. Refused: both tables are all zeros, and *result but for number, source and at. The log's length (20)
+ * Accepted: source and at are 0. Refused: both tables are all zeros, and every field but number, source and at. The log's length (20)
  * is tested first, then the snapshot (1 to 19), then the log (4, 12 to 16, 19, 21 to 29). */
+
+/* ---- a log, frame by frame: what was in it, whether or not a recovery takes it */
+
+/* Kinds of frames. LAMBSPOOL_NO_FRAME: too little is left for a whole frame. */
+#define LAMBSPOOL_NO_FRAME 0
+#define LAMBSPOOL_SINGLE 1
+#define LAMBSPOOL_BATCH 2
+
+/* Tags of operations. */
+#define LAMBSPOOL_TAG_PUT 1
+#define LAMBSPOOL_TAG_DELETE 2
+
+typedef struct lambspool_frame {
+    uint32_t number;
+    uint32_t kind;            /* LAMBSPOOL_SINGLE or LAMBSPOOL_BATCH; LAMBSPOOL_NO_FRAME where there is none, or it was refused */
+    uint64_t sequence;
+    size_t operations;        /* how many: of a single frame 1, of a batch 1 to 1024 */
+    size_t at;                /* the frame's first byte */
+    size_t first;             /* the tag of its first operation: for lambspool_operation_at */
+    size_t end;               /* the byte behind its last operation: for lambspool_operation_at */
+    size_t next;              /* the byte behind the frame, where the next one begins: 4 more than end */
+} lambspool_frame;
+
+lambspool_frame *lambspool_frame_at(lambspool_frame *result, size_t dimensions, size_t m, size_t ef_construction, uint64_t seed,
+    uint32_t metric, const void *log, size_t log_length, uint64_t previous, size_t at);
+/* Reads the frame whose first byte is `at`, its CRCs and all its operations. Settings are those of the snapshot beside the log. To
+ * walk a log, begin at byte 0 with `previous` 0; go on at the `next` of each frame, with its sequence as `previous`.
+ *
+ * Test number, then kind: where both are 0, the log ends at `at` or before it, or fewer bytes are left than the frame has. That is a tail and no
+ * refusal. Refused by 5 to 8, then 21, 22, 23, 24, 25, as operations are read 4, 26, 12 to 15, then 16. In both cases every other
+ * field is 0. A frame that is found here a recovery can still refuse, by 19, 27, 28 or 29. */
+
+typedef struct lambspool_operation {
+    uint32_t number;
+    uint32_t tag;             /* LAMBSPOOL_TAG_PUT or LAMBSPOOL_TAG_DELETE; refused: 0 */
+    uint64_t id;
+    size_t vector;            /* a put: the first byte of its coordinates in the log, 4 bytes each; else 0 */
+    size_t caption;           /* a put: the first byte of its caption in the log; else 0 */
+    size_t caption_length;    /* bytes, with no zero behind; a delete: 0 */
+    size_t next;              /* the tag of the next operation; behind the last one, the frame's end */
+} lambspool_operation;
+
+lambspool_operation *lambspool_operation_at(lambspool_operation *result, size_t dimensions, size_t m, size_t ef_construction,
+    uint64_t seed, uint32_t metric, const void *log, size_t log_length, uint32_t kind, size_t end, size_t at);
+/* Reads one operation of a frame that lambspool_frame_at found: kind and end are that frame's; `at` is its `first`, then the `next`
+ * of the operation before, as many times as the frame has operations and no more. So called it refuses nothing, and the last `next`
+ * is `end`.
+ *
+ * `end` is not the frame's `next` and not the log's length: with those, a CRC or another frame could be taken for an operation. With
+ * any numbers the call stays inside the log. Refused by 5 to 8, 33 if kind is neither LAMBSPOOL_SINGLE nor LAMBSPOOL_BATCH, 4 if
+ * `end` is past the log's end, then 4, 26, 12 to 15: every other field is 0. */
 
 /* ---- looking at what was read: the tables, and the very bytes that were handed to the reading */
 
@@ -220,8 +292,11 @@ typedef struct lambspool_found {
 } lambspool_found;
 
 lambspool_found lambspool_lookup(const uint64_t *rows, size_t row_words, size_t count, uint64_t id);
-/* The lowest live node of an ID below `count`, which is the records that the reading told; LAMBSPOOL_NO_NODE if there is none.
- * Refused by 30 if `count` is over row_words / 2 or over 100,000, as the views and the writers are. */
+/* The lowest live node of an ID below `count`; LAMBSPOOL_NO_NODE if there is none. Refused by 30 if `count` is over row_words / 2 or
+ * over 100,000, as the views and the writers are.
+ *
+ * `count` is the `records` that the reading told, here and for the views, the writers and the lines of nodes. With a larger one that
+ * is not refused, the zeros behind the records pass for live records with ID 0: a lookup of 0 finds the first of them. */
 
 typedef struct lambspool_part {
     uint32_t number;
@@ -253,7 +328,7 @@ lambspool_cache *lambspool_read_cache(lambspool_cache *result, const void *bytes
  * snapshot; a recovery's sequence and records are later, if a frame was replayed.
  *
  * Accepted: starts holds the byte at which each node begins, and zeros behind. Refused, by 1, 4 to 8, 16, 17 or 40 to 51: starts is
- * all zeros, entry LAMBSPOOL_NO_NODE, the rest 0. */
+ * all zeros, entry LAMBSPOOL_NO_NODE, every other field 0. */
 
 typedef struct lambspool_neighbours_part {
     uint32_t number;
@@ -282,7 +357,10 @@ lambspool_bytes lambspool_write_compacted_snapshot(size_t dimensions, size_t m, 
     size_t snapshot_length, const void *log, size_t log_length, void *out, size_t room);
 /* Writes a snapshot of version 2 of what a reading left: all its records, or the live ones alone, which then get new nodes. Settings,
  * sequence and count are those that the reading told, `snapshot` and `log` the bytes that it was handed (no log: 0 bytes). A room of
- * 56 + size always suffices. Captions and coordinates are copied and not tested again.
+ * LAMBSPOOL_SNAPSHOT_AROUND + size always suffices. Captions and coordinates are copied and not tested again.
+ *
+ * No call can tell that `sequence` is wrong. With a higher one the next recovery skips frames whose changes are not inside, without a
+ * sign: they are lost. With a lower one it takes changes twice, or refuses the log.
  *
  * Beside the whole log, a full snapshot written so recovers to the same records. Refused by 5 to 8, 30, 31, 34, 32, in this order. */
 
@@ -295,6 +373,8 @@ lambspool_bytes lambspool_encode_batch(size_t dimensions, size_t m, size_t ef_co
 /* Writes one frame of the log: of exactly one operation, or of a batch of 1 to 1024 that is taken whole or not at all. `operations`
  * has two words each; `coordinates` the bits of the f32 coordinates, `dimensions` for each put, in the order of the puts. `sequence`
  * is one more than that of the log's last frame, or of an empty log than the snapshot's; docs/PLAYOUT.md says when a frame may be appended.
+ * No call here can tell that it is wrong: the next recovery refuses the log, by 24 or 27, or where it is not above the snapshot's
+ * sequence skips the frame without a sign.
  *
  * Refused by 5 to 8, 24 (sequence 0), 25, 33, then for each operation 14, 33, 12, 13, 15; then 22, 32. */
 

@@ -96,7 +96,7 @@ static void example(void)
     const uint64_t hi[2] = {7, LAMBSPOOL_PUT(2, 0)}, ho[2] = {7, LAMBSPOOL_PUT(2, 2)};
     const uint64_t more[6] = {8, LAMBSPOOL_PUT(2, 0), 9, LAMBSPOOL_PUT(0, 4), 8, LAMBSPOOL_DELETE};
     const uint64_t gone[2] = {9, LAMBSPOOL_DELETE};
-    static const size_t lengths[4] = {39, 39, 70, 29};
+    static const size_t lengths[4] = {39, 39, 70, LAMBSPOOL_DELETE_FRAME};
     bool good = true;
     memcpy(snapshot, head, 52);
     snapshot_length = closed(snapshot, 52);
@@ -128,6 +128,43 @@ static void example(void)
         && lambspool_encode_batch(1, 1, 200, 42, 0, 1, NULL, 0, NULL, 0, NULL, 0, NULL, 0).number == LAMBSPOOL_WRONG_M
         && lambspool_encode_batch(1, 16, 15, 42, 0, 1, NULL, 0, NULL, 0, NULL, 0, NULL, 0).number == LAMBSPOOL_WRONG_EF;
     check("what is asked of an encoder wrongly", good);
+}
+
+/* A length or an offset that has no place in a put's word is refused; another put is never made of it. */
+static void puts_that_do_not_fit(void)
+{
+    static const uint32_t one[1] = {0x3f800000};
+    static const char captions[] = "HiHoHiHoHiHo";
+    const uint8_t eight = 8;
+    const size_t two = 2, beyond = ((size_t)1 << 48) + 2;
+    const int least = -32760;
+    int asked = 0;
+    const struct {
+        uint64_t word;
+        uint32_t number;
+    } cases[] = {
+        {LAMBSPOOL_PUT(eight, two), 0},
+        {LAMBSPOOL_PUT(eight, 4), 0},
+        {LAMBSPOOL_PUT(eight, 5), LAMBSPOOL_REQUEST_MALFORMED},
+        {LAMBSPOOL_PUT(eight, beyond), LAMBSPOOL_REQUEST_MALFORMED},
+        {LAMBSPOOL_PUT(eight, SIZE_MAX), LAMBSPOOL_REQUEST_MALFORMED},
+        {LAMBSPOOL_PUT(eight, -1), LAMBSPOOL_REQUEST_MALFORMED},
+        {LAMBSPOOL_PUT(0, beyond - 2), LAMBSPOOL_REQUEST_MALFORMED},
+        {LAMBSPOOL_PUT(least, two), LAMBSPOOL_CAPTION_TOO_LONG},
+        {LAMBSPOOL_PUT(-1, -1), LAMBSPOOL_CAPTION_TOO_LONG},
+        {LAMBSPOOL_PUT(32776, two), LAMBSPOOL_CAPTION_TOO_LONG},
+        {LAMBSPOOL_PUT(beyond, two), LAMBSPOOL_CAPTION_TOO_LONG},
+        {LAMBSPOOL_PUT(LAMBSPOOL_MAX_CAPTION + 1, two), LAMBSPOOL_CAPTION_TOO_LONG},
+    };
+    bool good = true;
+    for (size_t i = 0; i < sizeof cases / sizeof cases[0]; i++) {
+        const uint64_t put[2] = {7, cases[i].word};
+        lambspool_bytes b = encoded(false, 1, put, 2, one, 1, captions, filled(3, 64), 64);
+        good = good && b.number == cases[i].number && b.length == (b.number == 0 ? 45u : 0);
+    }
+    check("puts that have no place in a word are refused", good);
+    good = LAMBSPOOL_PUT(asked++, 0) == (uint64_t)1 << 63 && LAMBSPOOL_PUT(2, asked++) == ((uint64_t)1 << 63 | (uint64_t)2 << 48 | 1) && asked == 2;
+    check("a put's length and offset are evaluated once", good);
 }
 
 /* ---- recovery */
@@ -219,6 +256,175 @@ static void wrong_bytes(void)
     }
 }
 
+/* ---- a log, frame by frame */
+static lambspool_frame framed(const uint8_t *log, size_t n, uint64_t previous, size_t from)
+{
+    lambspool_frame f;
+    memset(&f, 0xa5, sizeof f);
+    if (lambspool_frame_at(&f, 1, 16, 200, 42, LAMBSPOOL_SQUARED_L2, copied(0, log, n), n, previous, from) != &f)
+        check("the frame's address comes back", false);
+    return f;
+}
+
+static lambspool_operation operated(const uint8_t *log, size_t n, uint32_t kind, size_t end, size_t from)
+{
+    lambspool_operation o;
+    memset(&o, 0xa5, sizeof o);
+    if (lambspool_operation_at(&o, 1, 16, 200, 42, LAMBSPOOL_SQUARED_L2, copied(0, log, n), n, kind, end, from) != &o)
+        check("the operation's address comes back", false);
+    return o;
+}
+
+static bool no_frame(lambspool_frame f, uint32_t number)
+{
+    return f.number == number && f.kind == LAMBSPOOL_NO_FRAME && f.sequence == 0 && f.operations == 0 && f.at == 0 && f.first == 0 && f.end == 0 && f.next == 0;
+}
+
+static bool no_operation(lambspool_operation o, uint32_t number)
+{
+    return o.number == number && o.tag == 0 && o.id == 0 && o.vector == 0 && o.caption == 0 && o.caption_length == 0 && o.next == 0;
+}
+
+/* what the example's log has: a put of one frame is one, and so is each operation of the batch */
+static const struct { uint64_t id; uint32_t tag; const char *caption; } put_in[6] = {
+    {7, LAMBSPOOL_TAG_PUT, "Hi"}, {7, LAMBSPOOL_TAG_PUT, "Ho"}, {8, LAMBSPOOL_TAG_PUT, "Hi"}, {9, LAMBSPOOL_TAG_PUT, ""}, {8, LAMBSPOOL_TAG_DELETE, NULL}, {9, LAMBSPOOL_TAG_DELETE, NULL}};
+
+/* the operations of a frame, from the k-th of the log on */
+static bool walked(const uint8_t *log, size_t n, lambspool_frame f, size_t k)
+{
+    size_t from = f.first;
+    for (size_t i = 0; i < f.operations; i++, k++) {
+        lambspool_operation o = operated(log, n, f.kind, f.end, from);
+        size_t place = from + (f.kind == LAMBSPOOL_SINGLE ? 9 : 1);
+        if (o.number != 0 || o.tag != put_in[k].tag || o.tag != log[from] || o.id != put_in[k].id)
+            return false;
+        if (o.tag == LAMBSPOOL_TAG_DELETE) {
+            if (o.vector != 0 || o.caption != 0 || o.caption_length != 0 || o.next != place + 8)
+                return false;
+        } else if (o.vector != place + 8 || memcmp(log + o.vector, "\0\0\200\77", 4) != 0 || o.caption != o.vector + 8 || o.caption_length != strlen(put_in[k].caption)
+            || memcmp(log + o.caption, put_in[k].caption, o.caption_length) != 0 || o.next != o.caption + o.caption_length)
+            return false;
+        from = o.next;
+    }
+    return from == f.end;
+}
+
+static void walks(void)
+{
+    static const size_t operations[4] = {1, 1, 3, 1};
+    bool good = true;
+    memcpy(store_log + log_length, "abc", 3);
+    for (size_t cut = 0; cut <= log_length + 3; cut++) {
+        size_t i = 0, k = 0;
+        lambspool_frame f = framed(store_log, cut, 0, 0);
+        for (; f.kind != LAMBSPOOL_NO_FRAME && i < 4; i++) {
+            good = good && f.number == 0 && f.kind == (i == 2 ? LAMBSPOOL_BATCH : LAMBSPOOL_SINGLE) && f.sequence == i + 1 && f.operations == operations[i] && f.at == ends[i]
+                && f.first == ends[i] + (i == 2 ? 21 : 8) && f.end == ends[i + 1] - 4 && f.next == ends[i + 1] && walked(store_log, cut, f, k);
+            k += f.operations;
+            f = framed(store_log, cut, f.sequence, f.next);
+        }
+        good = good && no_frame(f, 0) && ends[i] <= cut && (i == 4 || cut < ends[i + 1]);
+    }
+    check("a log walked, at every cut", good);
+    good = no_frame(framed(store_log, log_length, 4, log_length + 1), 0) && no_frame(framed(store_log, log_length, 4, SIZE_MAX), 0)
+        && no_frame(framed(NULL, 0, 0, 0), 0) && no_frame(framed(store_log, log_length, 2, ends[1]), LAMBSPOOL_WRONG_SEQUENCE);
+    for (size_t i = 0; i < ends[1]; i++) {
+        static const uint32_t numbers[2] = {LAMBSPOOL_WRONG_LENGTH_CRC, LAMBSPOOL_WRONG_PAYLOAD_CRC};
+        store_log[i] ^= 0x55;
+        good = good && no_frame(framed(store_log, log_length, 0, 0), numbers[8 <= i]) && framed(store_log, log_length, 0, ends[1]).sequence == 2;
+        store_log[i] ^= 0x55;
+    }
+    check("no frame: past the end, out of order, every byte wrong", good);
+}
+
+/* any place and any end: the call stays inside, and what it tells lies before the end */
+static void any_places(void)
+{
+    bool good = true;
+    static const size_t far[4] = {SIZE_MAX, SIZE_MAX - 8, SIZE_MAX - 1, (size_t)1 << 63};
+    for (uint32_t kind = LAMBSPOOL_SINGLE; kind <= LAMBSPOOL_BATCH; kind++)
+        for (size_t end = 0; end <= log_length + 1; end++) {
+            for (size_t from = 0; from <= log_length + 1; from++) {
+                lambspool_operation o = operated(store_log, log_length, kind, end, from);
+                if (o.number != 0)
+                    good = good && no_operation(o, o.number);
+                else
+                    good = good && end <= log_length && from < o.next && o.next <= end && (o.tag == LAMBSPOOL_TAG_DELETE || o.next == o.caption + o.caption_length);
+            }
+            for (int i = 0; i < 4; i++)
+                good = good && no_operation(operated(store_log, log_length, kind, end, far[i]), LAMBSPOOL_PAST_THE_END)
+                    && no_operation(operated(store_log, log_length, kind, far[i], end), LAMBSPOOL_PAST_THE_END);
+        }
+    check("an operation at any place, with any end", good);
+}
+
+/* frames made by hand, so that every refusal of what is decoded is reached */
+static size_t made_frame(uint8_t *log, const void *payload, size_t n)
+{
+    word(log, (uint32_t)n);
+    word(log + 4, lambspool_crc32_of(log, 4));
+    memcpy(log + 8, payload, n);
+    word(log + 8 + n, lambspool_crc32_of(log + 8, n));
+    return n + 12;
+}
+
+static void wrong_frames(void)
+{
+    static const struct { uint32_t number; size_t n; const char *payload; uint32_t metric; } wrong[] = {
+        {LAMBSPOOL_WRONG_LENGTH, 16, "\2\1\0\0\0\0\0\0\0\7\0\0\0\0\0\0", 0},
+        {LAMBSPOOL_WRONG_SEQUENCE, 17, "\2\0\0\0\0\0\0\0\0\7\0\0\0\0\0\0\0", 0},
+        {LAMBSPOOL_WRONG_BATCH_COUNT, 22, "\3\1\0\0\0\0\0\0\0\0\0\0\0\2\7\0\0\0\0\0\0\0", 0},
+        {LAMBSPOOL_WRONG_BATCH_COUNT, 22, "\3\1\0\0\0\0\0\0\0\2\0\0\0\2\7\0\0\0\0\0\0\0", 0},
+        {LAMBSPOOL_UNKNOWN_OPERATION, 17, "\4\1\0\0\0\0\0\0\0\7\0\0\0\0\0\0\0", 0},
+        {LAMBSPOOL_UNKNOWN_OPERATION, 22, "\3\1\0\0\0\0\0\0\0\1\0\0\0\0\7\0\0\0\0\0\0\0", 0},
+        {LAMBSPOOL_PAST_THE_END, 17, "\1\1\0\0\0\0\0\0\0\7\0\0\0\0\0\0\0", 0},
+        {LAMBSPOOL_PAST_THE_END, 25, "\1\1\0\0\0\0\0\0\0\7\0\0\0\0\0\0\0\0\0\200\77\1\0\0\0", 0},
+        {LAMBSPOOL_NOT_FINITE, 25, "\1\1\0\0\0\0\0\0\0\7\0\0\0\0\0\0\0\0\0\200\177\0\0\0\0", 0},
+        {LAMBSPOOL_VECTOR_ALL_ZERO, 25, "\1\1\0\0\0\0\0\0\0\7\0\0\0\0\0\0\0\0\0\0\200\0\0\0\0", LAMBSPOOL_COSINE},
+        {LAMBSPOOL_CAPTION_TOO_LONG, 25, "\1\1\0\0\0\0\0\0\0\7\0\0\0\0\0\0\0\0\0\200\77\1\100\0\0", 0},
+        {LAMBSPOOL_NOT_UTF8, 26, "\1\1\0\0\0\0\0\0\0\7\0\0\0\0\0\0\0\0\0\200\77\1\0\0\0\377", 0},
+        {LAMBSPOOL_BYTES_LEFT_OVER, 18, "\2\1\0\0\0\0\0\0\0\7\0\0\0\0\0\0\0\0", 0},
+    };
+    bool good = true;
+    uint8_t log[64];
+    for (size_t i = 0; i < sizeof wrong / sizeof wrong[0]; i++) {
+        size_t n = made_frame(log, wrong[i].payload, wrong[i].n);
+        lambspool_frame f;
+        lambspool_operation o;
+        uint32_t kind = log[8] == 3 ? LAMBSPOOL_BATCH : LAMBSPOOL_SINGLE, number = wrong[i].number;
+        lambspool_frame_at(&f, 1, 16, 200, 42, wrong[i].metric, copied(0, log, n), n, 0, 0);
+        good = good && no_frame(f, number);
+        if (number == LAMBSPOOL_WRONG_LENGTH || number == LAMBSPOOL_WRONG_SEQUENCE || number == LAMBSPOOL_WRONG_BATCH_COUNT || number == LAMBSPOOL_BYTES_LEFT_OVER)
+            continue; /* a frame's own: an operation has none of these */
+        lambspool_operation_at(&o, 1, 16, 200, 42, wrong[i].metric, copied(0, log, n), n, kind, n - 4, kind == LAMBSPOOL_BATCH ? 21 : 8);
+        good = good && no_operation(o, number);
+    }
+    check("frames and operations wrong in each way that is told", good);
+}
+
+static void wrong_walks(void)
+{
+    static const uint32_t kinds[4] = {LAMBSPOOL_NO_FRAME, 3, 256 + LAMBSPOOL_SINGLE, UINT32_MAX};
+    static const struct { uint32_t number; size_t d, m, ef; uint32_t metric; } wrong[5] = {{5, 0, 1, 0, 3}, {6, 0, 1, 0, 0}, {6, 4097, 1, 0, 0}, {7, 1, 1, 0, 0}, {8, 1, 16, 15, 0}};
+    bool good = true;
+    uint8_t *log = copied(0, store_log, log_length);
+    for (int i = 0; i < 5; i++) {
+        lambspool_frame f;
+        lambspool_operation o;
+        lambspool_frame_at(&f, wrong[i].d, wrong[i].m, wrong[i].ef, 42, wrong[i].metric, log, log_length, 9, 3);
+        good = good && no_frame(f, wrong[i].number);
+        for (uint32_t kind = 0; kind < 4; kind++) {
+            lambspool_operation_at(&o, wrong[i].d, wrong[i].m, wrong[i].ef, 42, wrong[i].metric, log, log_length, kind, SIZE_MAX, 0);
+            good = good && no_operation(o, wrong[i].number);
+        }
+    }
+    for (int i = 0; i < 4; i++)
+        good = good && no_operation(operated(store_log, log_length, kinds[i], SIZE_MAX, SIZE_MAX), LAMBSPOOL_REQUEST_MALFORMED);
+    good = good && no_operation(operated(store_log, log_length, LAMBSPOOL_SINGLE, log_length + 1, ends[3] + 8), LAMBSPOOL_PAST_THE_END)
+        && operated(store_log, log_length, LAMBSPOOL_SINGLE, log_length, ends[3] + 8).number == 0;
+    check("settings that are wrong, a kind that is none: 5 to 8, then 33, then 4", good);
+}
+
 /* ---- what can be looked at, and what is written of it */
 static void looks(void)
 {
@@ -230,6 +436,10 @@ static void looks(void)
     good = good && lambspool_lookup(l.rows, l.row_words, 5, 7).number == LAMBSPOOL_NO_SUCH_NODE && lambspool_lookup(l.rows, l.row_words, 5, 7).node == LAMBSPOOL_NO_NODE;
     good = good && lambspool_lookup(NULL, 0, 0, 7).node == LAMBSPOOL_NO_NODE;
     check("lookup", good);
+    r = recovered(&l, ends[3] + 3, 8);
+    good = lambspool_lookup(l.rows, l.row_words, r.records, 0).node == LAMBSPOOL_NO_NODE && lambspool_lookup(l.rows, l.row_words, r.records + 1, 0).node == r.records;
+    check("a count above the records passes zeros for ID 0, as the header says", good);
+    r = recovered(&l, ends[3] + 3, 4);
 
     good = lambspool_caption(&p, l.snapshot, l.snapshot_length, l.log, l.log_length, l.rows, l.row_words, r.records, 1, 1) == &p && p.number == 0
         && p.source == LAMBSPOOL_LOG && p.length == 2 && memcmp(l.log + p.at, "Ho", 2) == 0;
@@ -271,7 +481,7 @@ static void written_again(void)
     lambspool_recovery r = recovered(&l, ends[3] + 3, 4);
     bool good = true;
     for (int compacted = 0; compacted < 2; compacted++) {
-        size_t n = compacted ? 56 + 19 + 17 : 56 + r.size;
+        size_t n = LAMBSPOOL_SNAPSHOT_AROUND + (compacted ? 19 + 17 : r.size);
         for (size_t room = 0; room < n + 3; room++) {
             uint8_t *out = filled(4, room);
             lambspool_bytes b = (compacted ? lambspool_write_compacted_snapshot : lambspool_write_snapshot)(r.dimensions, r.m, r.ef_construction, r.seed, r.metric,
@@ -285,7 +495,7 @@ static void written_again(void)
                 uint64_t *rows = filled(5, 64);
                 uint32_t active[4];
                 good = good && lambspool_read_snapshot(&s, out, n, rows, 8, active, 4) == &s && s.number == 0 && s.sequence == 3 && s.active == 2 && s.metric == 0
-                    && s.dimensions == 1 && s.m == 16 && s.ef_construction == 200 && s.seed == 42 && s.records == (compacted ? 2u : 4u) && s.size == n - 56
+                    && s.dimensions == 1 && s.m == 16 && s.ef_construction == 200 && s.seed == 42 && s.records == (compacted ? 2u : 4u) && s.size == n - LAMBSPOOL_SNAPSHOT_AROUND
                     && s.crc == lambspool_crc32_of(out, n - 4) && rows[compacted ? 0 : 2] == 7 && active[0] == (compacted ? 0u : 1u) && active[2] == 0;
             }
         }
@@ -293,6 +503,30 @@ static void written_again(void)
     good = good && lambspool_write_snapshot(1, 16, 200, 42, 3, 1, NULL, 0, 0, NULL, 0, NULL, 0, NULL, 0).number == LAMBSPOOL_WRONG_METRIC
         && lambspool_write_snapshot(1, 16, 200, 42, 0, 1, NULL, 0, 1, NULL, 0, NULL, 0, NULL, 0).number == LAMBSPOOL_NO_SUCH_NODE;
     check("snapshots written, with every room, and read again", good);
+}
+
+/* The header's warning: a sequence that is too high has the next recovery skip frames whose changes are not inside. */
+static void wrong_sequence(void)
+{
+    struct lent l;
+    lambspool_recovery r = recovered(&l, ends[1], 4); /* 7 live Hi, sequence 1 */
+    uint8_t out[LAMBSPOOL_SNAPSHOT_AROUND + 19];
+    bool good = true;
+    for (uint64_t sequence = 1; sequence < 5; sequence++) {
+        uint64_t rows[16];
+        uint32_t active[8];
+        lambspool_recovery again;
+        lambspool_bytes b = lambspool_write_snapshot(r.dimensions, r.m, r.ef_construction, r.seed, r.metric, sequence, l.rows, l.row_words, r.records,
+            l.snapshot, l.snapshot_length, l.log, l.log_length, out, sizeof out);
+        lambspool_recover(&again, out, b.length, store_log, log_length, rows, 16, active, 8);
+        good = good && b.number == 0 && b.length == sizeof out;
+        if (sequence == 1)
+            good = good && again.number == 0 && again.records == 4 && again.skipped == 1 && again.replayed == 3;
+        else /* what frame 2 puts is missing; frame 4 deletes what frame 3 puts */
+            good = good && (sequence == 3 ? again.number == LAMBSPOOL_INACTIVE_DELETE
+                : again.number == 0 && again.skipped == sequence && again.records == (sequence == 2 ? 3u : 1u));
+    }
+    check("a wrong sequence is not refused: frames are skipped, as the header says", good);
 }
 
 static void lines(void)
@@ -428,7 +662,7 @@ static void longs(void)
     static const uint32_t one[1] = {0x3f800000};
     static char caption[LAMBSPOOL_MAX_CAPTION];
     const uint64_t put[2] = {7, LAMBSPOOL_PUT(LAMBSPOOL_MAX_CAPTION, 0)}, more[2] = {7, LAMBSPOOL_PUT(LAMBSPOOL_MAX_CAPTION + 100000, 0)};
-    size_t n = 37 + LAMBSPOOL_MAX_CAPTION, room = 56 + 17 + LAMBSPOOL_MAX_CAPTION;
+    size_t n = 37 + LAMBSPOOL_MAX_CAPTION, room = LAMBSPOOL_SNAPSHOT_AROUND + 17 + LAMBSPOOL_MAX_CAPTION;
     uint64_t *rows = filled(2, 32);
     uint32_t *active = filled(3, 8);
     uint8_t *bytes = copied(0, snapshot, snapshot_length), *out, *line;
@@ -457,11 +691,17 @@ static void every_call(void)
         behind = back;
         crcs();
         example();
+        puts_that_do_not_fit();
         recoveries();
         wrong_bytes();
+        walks();
+        any_places();
+        wrong_frames();
+        wrong_walks();
         looks();
         lines_of_nodes();
         written_again();
+        wrong_sequence();
         lines();
         caches();
         wrong_caches();

@@ -1,2 +1,3 @@
 pub mod Given
+pub mod LogFits
 pub mod RefusalText

@@ -1,3 +1,4 @@
 pub mod Asked
+pub mod Fits
 pub mod Lines
 pub mod Said

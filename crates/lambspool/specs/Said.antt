@@ -1,11 +1,19 @@
 -- What an entry says: document 01's number, 0 where nothing is refused, and the values of each case of an answer. A refusal's values
 -- are 0, and its node is none.
-use Prim.Native.Nat.{ℕ}
+use Prim.Native.Nat.{ℕ, _+_}
 use mathlib.Core.Bool.{Bool, cond}
 use Rattle.refusal.specs.Refusal.{number}
 use Rattle.refusal.specs.declared.Written.{Written}
 use Rattle.refusal.specs.declared.Written.the-variants as Writes
 use Rattle.config.specs.Settings.{metricNumber, efOf}
+use Rattle.layout.specs.Layout.{captionOffset}
+use Rattle.layout.specs.declared.Shape.{Shape}
+use Rattle.layout.specs.declared.Shape.the-variants.{Single, Batch}
+use Rattle.meaning.specs.Calls.{firstOperation, operationsEnd}
+use Rattle.log.specs.declared.ReadFrame.{ReadFrame}
+use Rattle.log.specs.declared.ReadFrame.the-variants as Frames
+use Rattle.log.specs.declared.ReadOperation.{ReadOperation}
+use Rattle.log.specs.declared.ReadOperation.the-variants as Operations
 use Rattle.snapshot.specs.declared.ReadSnapshot.{ReadSnapshot}
 use Rattle.snapshot.specs.declared.ReadSnapshot.the-variants as Snapshots
 use Rattle.recovery.specs.declared.Recovery.{Recovery}
@@ -22,6 +30,8 @@ use Rattle.graph.specs.declared.ShownLevel.{ShownLevel}
 use Rattle.graph.specs.declared.ShownLevel.the-variants as Showns
 use Rattle.lambspool.specs.declared.Snapshot.{Snapshot}
 use Rattle.lambspool.specs.declared.Store.{Store}
+use Rattle.lambspool.specs.declared.Frame.{Frame}
+use Rattle.lambspool.specs.declared.Operation.{Operation}
 use Rattle.lambspool.specs.declared.Lookup.{Lookup}
 use Rattle.lambspool.specs.declared.Part.{Part}
 use Rattle.lambspool.specs.declared.Cache.{Cache}
@@ -112,6 +122,47 @@ storeSaid (Recoveries.Recovered i) =
     }
 storeSaid (Recoveries.RefusedSnapshot why) = refusedStore (number why) 0 0
 storeSaid (Recoveries.RefusedLog why at) = refusedStore (number why) 1 at
+
+-- 1 single, 2 batch; 0 is no frame
+abbrev pub kindNumber : Shape → ℕ
+kindNumber Single = 1
+kindNumber Batch = 2
+
+abbrev pub noFrame : ℕ → Frame
+noFrame n = record { number = n; kind = 0; sequence = 0; operations = 0; at = 0; first = 0; end = 0; next = 0 }
+
+-- too little for a frame is no refusal
+abbrev pub frameSaid : ReadFrame → Frame
+frameSaid Frames.TooLittle = noFrame 0
+frameSaid (Frames.Whole f) =
+    record {
+      number = 0;
+      kind = kindNumber (f .shape);
+      sequence = f .sequence;
+      operations = f .operations;
+      at = f .start;
+      first = firstOperation (f .shape) (f .start);
+      end = operationsEnd (f .next);
+      next = f .next;
+    }
+frameSaid (Frames.Refused why) = noFrame (number why)
+
+-- with d coordinates: the tag 1 is a put, whose vector and caption stand at these bytes of the log, and 2 a delete
+abbrev pub operationSaid : ℕ → ReadOperation → Operation
+operationSaid d (Operations.Put r next) =
+    record {
+      number = 0;
+      tag = 1;
+      id = r .id .0;
+      vector = r .at;
+      caption = r .at + captionOffset d;
+      «caption_length» = r .«caption_length»;
+      next = next;
+    }
+operationSaid d (Operations.Remove id next) =
+    record { number = 0; tag = 2; id = id .0; vector = 0; caption = 0; «caption_length» = 0; next = next }
+operationSaid d (Operations.Refused why) =
+    record { number = number why; tag = 0; id = 0; vector = 0; caption = 0; «caption_length» = 0; next = 0 }
 
 abbrev pub foundSaid : Found → Lookup
 foundSaid (Founds.Node n) = record { number = 0; node = n .0 }

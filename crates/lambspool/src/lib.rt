@@ -3,23 +3,26 @@
 // values: specs/Said.antt has both for each case of the answers of the proved calls. Settings are handed over as their numbers:
 // specs/Asked.antt. host/ has the C declarations; a result of more than 16 bytes is there a pointer that is passed first.
 ghost use mathlib.Core.Path.{_≡_};
+ghost use Prim.Native.Nat.{_+_, _≤_};
 ghost use lib.Bits.{bitXor};
 ghost use lib.ListN.{length};
 ghost use Rattle.crc32.specs.Crc.{allOnes, bytesIn, crcOf};
 ghost use Rattle.refusal.specs.Refusal.{writtenTold};
 ghost use Rattle.layout.specs.declared.Extent.the-variants.{Full, Compacted};
 ghost use Rattle.sources.specs.declared.Shown.the-variants.{Caption, Vector};
-ghost use Rattle.meaning.specs.Calls.{readCall, readTables, recoverCall, recoverTables, outputAfter};
+ghost use Rattle.meaning.specs.Calls.{readCall, readTables, recoverCall, recoverTables, firstOperation, outputAfter};
 ghost use Rattle.meaning.specs.Views.{lookup as lookupOf, view as viewOf};
 ghost use Rattle.graph.specs.Neighbours.{neighbours as neighboursOf};
 ghost use Rattle.graph.specs.Told.{cacheTold, startsAfter, shownTold};
 ghost use Rattle.snapshot.specs.Told.{readTold};
 ghost use Rattle.recovery.specs.Told.{recoveryAnswer};
+ghost use Rattle.log.specs.Told.{frameTold, operationTold};
 ghost use Rattle.views.specs.Told.{foundTold, viewed};
 ghost use Rattle.listing_text.specs.Listing.{fitted, firstLineCall, nodeLineCall};
 ghost use Rattle.lambspool.specs.Lines.{heading, refusalText};
-ghost use Rattle.lambspool.specs.Asked.{settingsOf, settingsTold, cacheAsked, writeAsked, encodeAsked};
-ghost use Rattle.lambspool.specs.Said.{snapshotSaid, refusedStore, storeSaid, foundSaid, entrySaid, sourceNumber, partSaid, cacheSaid, neighboursSaid, bytesSaid};
+ghost use Rattle.lambspool.specs.Asked.{settingsOf, settingsTold, frameAsked, operationOf, operationAsked, cacheAsked, writeAsked, encodeAsked};
+ghost use Rattle.lambspool.specs.Fits.{FrameFits, OperationFits};
+ghost use Rattle.lambspool.specs.Said.{snapshotSaid, refusedStore, storeSaid, kindNumber, noFrame, frameSaid, operationSaid, foundSaid, entrySaid, sourceNumber, partSaid, cacheSaid, neighboursSaid, bytesSaid};
 use config::Config;
 use config::Metric;
 use config::ReadMetric;
@@ -29,7 +32,10 @@ use graph::ShownLevel;
 use layout::Extent;
 use layout::Shape;
 use listing_text::Heading;
+use log::ReadFrame;
+use log::ReadOperation;
 use recovery::Recovery;
+use refusal::Checked;
 use refusal::Refusal;
 use refusal::Written;
 use rows::Id;
@@ -84,6 +90,31 @@ pub struct Store {
     pub keep: usize,
     pub tail: usize,
     pub size: usize,
+}
+
+// A frame of a log; `kind` is 1 for a single frame, 2 for a batch, and 0 where there is none.
+#[repr(C)]
+pub struct Frame {
+    pub number: u32,
+    pub kind: u32,
+    pub sequence: u64,
+    pub operations: usize,
+    pub at: usize,
+    pub first: usize,
+    pub end: usize,
+    pub next: usize,
+}
+
+// An operation of a frame: `tag` is 1 for a put, 2 for a delete, and the places are bytes of the log.
+#[repr(C)]
+pub struct Operation {
+    pub number: u32,
+    pub tag: u32,
+    pub id: u64,
+    pub vector: usize,
+    pub caption: usize,
+    pub caption_length: usize,
+    pub next: usize,
 }
 
 // The lowest live node of an ID; `NO_NODE` where there is none.
@@ -379,6 +410,163 @@ fn settings(d: usize, m: usize, ef: usize, seed: u64, metric: u32) -> ReadSettin
             metric: known,
         }),
         ReadMetric::Refused(why) => ReadSettings::Refused(why),
+    }
+}
+
+// ---- a log, frame by frame
+
+// Too little, or a refusal.
+fn no_frame(number: u32) -> Frame
+    ensures { λ r. ⌜ r ≡ noFrame number ⌝ }
+{
+    Frame {
+        number,
+        kind: 0,
+        sequence: 0,
+        operations: 0,
+        at: 0,
+        first: 0,
+        end: 0,
+        next: 0,
+    }
+}
+
+fn kind_number(shape: Shape) -> u32
+    ensures { λ r. ⌜ r ≡ kindNumber shape ⌝ }
+{
+    match shape {
+        Shape::Single => 1,
+        Shape::Batch => 2,
+    }
+}
+
+// A frame has 29 bytes at least.
+fn first_operation(frame: log::Frame) -> usize
+    requires { ⌜ frame .start + 29 ≤ frame .next ⌝ }
+    ensures { λ r. ⌜ r ≡ firstOperation (frame .shape) (frame .start) ⌝ }
+{
+    let start = frame.start;
+    let shape = frame.shape;
+    match shape {
+        Shape::Single => start + layout::FRAME_HEAD,
+        Shape::Batch => start + layout::FRAME_HEAD + layout::BATCH_HEAD,
+    }
+}
+
+fn frame_said(answer: ReadFrame) -> Frame
+    requires { ⌜ FrameFits answer ⌝ }
+    ensures { λ r. ⌜ r ≡ frameSaid answer ⌝ }
+{
+    match answer {
+        ReadFrame::TooLittle => no_frame(0),
+        ReadFrame::Whole(frame) => {
+            let shape = frame.shape;
+            Frame {
+                number: 0,
+                kind: kind_number(shape),
+                sequence: frame.sequence,
+                operations: frame.operations,
+                at: frame.start,
+                first: first_operation(frame),
+                end: frame.next - layout::CRC_LENGTH,
+                next: frame.next,
+            }
+        }
+        ReadFrame::Refused(why) => no_frame(why.number()),
+    }
+}
+
+#[no_mangle]
+pub extern "C" fn lambspool_frame_at(
+    d: usize,
+    m: usize,
+    ef: usize,
+    seed: u64,
+    metric: u32,
+    log: &[u8],
+    previous: u64,
+    at: usize,
+) -> Frame
+    ensures { λ r. ⌜ r ≡ frameSaid (frameTold (frameAsked d m ef seed metric (now (log .entry)) previous at)) ⌝ }
+{
+    match settings(d, m, ef, seed, metric) {
+        ReadSettings::Known(config) => frame_said(log::frame_at(config, log, previous, at)),
+        ReadSettings::Refused(why) => frame_said(ReadFrame::Refused(why)),
+    }
+}
+
+fn operation_said(d: usize, answer: ReadOperation) -> Operation
+    requires { ⌜ OperationFits d answer ⌝ }
+    ensures { λ r. ⌜ r ≡ operationSaid d answer ⌝ }
+{
+    match answer {
+        ReadOperation::Put(row, next) => {
+            let id = row.id;
+            let vector = row.at;
+            Operation {
+                number: 0,
+                tag: 1,
+                id: id.0,
+                vector,
+                caption: vector + layout::caption_offset(d),
+                caption_length: row.caption_length,
+                next,
+            }
+        }
+        ReadOperation::Remove(id, next) => Operation {
+            number: 0,
+            tag: 2,
+            id: id.0,
+            vector: 0,
+            caption: 0,
+            caption_length: 0,
+            next,
+        },
+        ReadOperation::Refused(why) => Operation {
+            number: why.number(),
+            tag: 0,
+            id: 0,
+            vector: 0,
+            caption: 0,
+            caption_length: 0,
+            next: 0,
+        },
+    }
+}
+
+// A kind that is none is refused behind the settings.
+fn operation_of(config: Config, log: &[u8], kind: u32, end: usize, at: usize) -> ReadOperation
+    ensures { λ r. ⌜ r ≡ operationTold (operationOf config (now (log .entry)) kind end at) ⌝ }
+{
+    if kind == 1 {
+        return log::operation_at(config, log, Shape::Single, end, at);
+    }
+    if kind == 2 {
+        return log::operation_at(config, log, Shape::Batch, end, at);
+    }
+    match config.validate() {
+        Checked::Passed => ReadOperation::Refused(Refusal::RequestMalformed),
+        Checked::Refused(why) => ReadOperation::Refused(why),
+    }
+}
+
+#[no_mangle]
+pub extern "C" fn lambspool_operation_at(
+    d: usize,
+    m: usize,
+    ef: usize,
+    seed: u64,
+    metric: u32,
+    log: &[u8],
+    kind: u32,
+    end: usize,
+    at: usize,
+) -> Operation
+    ensures { λ r. ⌜ r ≡ operationSaid d (operationTold (operationAsked d m ef seed metric (now (log .entry)) kind end at)) ⌝ }
+{
+    match settings(d, m, ef, seed, metric) {
+        ReadSettings::Known(config) => operation_said(d, operation_of(config, log, kind, end, at)),
+        ReadSettings::Refused(why) => operation_said(d, ReadOperation::Refused(why)),
     }
 }
 

@@ -11,6 +11,9 @@ use Rattle.meaning.specs.Records.{Record, seen}
 use Rattle.meaning.specs.Recovery.{Recovery, recovered, refusedSnapshot, refusedLog, recordsOf}
 use Rattle.meaning.specs.Calls.{RecoveryTold, recoveryTold}
 use Rattle.meaning.specs.Views.{view}
+use Rattle.recovery.specs.declared.Recovery.{Recovery as Answer}
+use Rattle.recovery.specs.declared.Recovery.the-variants as Answers
+use Rattle.recovery.specs.declared.RecoveryInfo.{RecoveryInfo}
 use Rattle.listing_text.specs.Lines.{firstLine, refusedLine, nodeLine}
 use Rattle.listing_text.specs.declared.Heading.{Heading}
 use Rattle.listing_text.specs.declared.Stopped.{Stopped}
@@ -28,6 +31,25 @@ headingOf r =
       keep = r .keep;
       tail = r .tail;
     }
+
+-- what it tells of an answer of `recovery::recover`
+abbrev pub headingShown : RecoveryInfo → Heading
+headingShown i =
+    record {
+      sequence = i .sequence;
+      records = i .records;
+      active = i .active;
+      replayed = i .replayed;
+      skipped = i .skipped;
+      keep = i .keep;
+      tail = i .tail;
+    }
+
+-- the line that an answer is told by: its first line, or the refusal's
+abbrev pub answerLine : Answer → List ℕ
+answerLine (Answers.Recovered i) = firstLine (headingShown i)
+answerLine (Answers.RefusedSnapshot why) = refusedLine (Stops.Snapshot why)
+answerLine (Answers.RefusedLog why at) = refusedLine (Stops.Log why at)
 
 -- a line for each node in node order, from node n on
 unfoldable pub nodeLines : ℕ → List Record → List ℕ
@@ -51,6 +73,9 @@ firstLineCall h out = fitted out (firstLine h)
 
 abbrev pub refusalLineCall : Stopped → List ℕ → Result (List ℕ)
 refusalLineCall stopped out = fitted out (refusedLine stopped)
+
+abbrev pub answerLineCall : Answer → List ℕ → Result (List ℕ)
+answerLineCall a out = fitted out (answerLine a)
 
 -- 6, 30 and 31 as the caption's view has them, of a node that is gone too; then 32
 unfoldable pub nodeLineCall : ℕ → List ℕ → ℕ → ℕ → List ℕ → List ℕ → List ℕ → Result (List ℕ)

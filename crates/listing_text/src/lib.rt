@@ -1,4 +1,5 @@
-// The lines of the listing, written into lent memory: the first line, a refusal's line, the line of one node.
+// The lines of the listing, written into lent memory: the first line or a refusal's line, by themselves or as recovery's answer has them;
+// the line of one node.
 // Each call answers how many bytes it wrote at the front of its output, or refuses by number and changes no byte: nothing is
 // written before the line's length is known to fit. The definitions are in specs/: Decimal, Lines, and Listing for the calls.
 ghost use mathlib.Core.Path.{_≡_};
@@ -13,7 +14,9 @@ ghost use Rattle.meaning.specs.Calls.{outputAfter};
 ghost use Rattle.fields.specs.Placed.{placed};
 ghost use Rattle.listing_text.specs.Decimal.{digit, decimal};
 ghost use Rattle.listing_text.specs.Lines.{ascii, newline, named, stateCounts, logCounts, lineOf, stateText};
-ghost use Rattle.listing_text.specs.Listing.{fitted, firstLineCall, refusalLineCall, nodeLineCall};
+ghost use Rattle.listing_text.specs.Listing.{headingShown, fitted, firstLineCall, refusalLineCall, answerLineCall, nodeLineCall};
+use recovery::Recovery;
+use recovery::RecoveryInfo;
 use refusal::Refusal;
 use refusal::Written;
 use rows::Node;
@@ -195,6 +198,33 @@ pub fn refusal_line(stopped: Stopped, out: &mut [u8]) -> Written
             let why = Refusal::FileUnreadable;
             number_line(b"refused file ", why.number() as u64, out)
         }
+    }
+}
+
+// ---- the line that recovery's answer is told by
+fn heading_of(info: RecoveryInfo) -> Heading
+    ensures { λ r. ⌜ r ≡ headingShown info ⌝ }
+{
+    Heading {
+        sequence: info.sequence,
+        records: info.records,
+        active: info.active,
+        replayed: info.replayed,
+        skipped: info.skipped,
+        keep: info.keep,
+        tail: info.tail,
+    }
+}
+
+// The first line of an answer that is no refusal, or the refusal's line.
+pub fn answer_line(answer: Recovery, out: &mut [u8]) -> Written
+    ensures { λ r. ⌜ r ≡ writtenTold (answerLineCall answer (now (out .entry))) ⌝ }
+    ensures { λ _. ⌜ now (out .exit) ≡ outputAfter (now (out .entry)) (answerLineCall answer (now (out .entry))) ⌝ }
+{
+    match answer {
+        Recovery::Recovered(info) => first_line(heading_of(info), out),
+        Recovery::RefusedSnapshot(why) => refusal_line(Stopped::Snapshot(why), out),
+        Recovery::RefusedLog(why, at) => refusal_line(Stopped::Log(why, at), out),
     }
 }
 

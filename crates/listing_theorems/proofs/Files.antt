@@ -3,26 +3,26 @@ use Prim.Native.Nat.{ℕ, _+_, _*_, _≤_, _<_}
 use native.Mathlib.Omega.{arith}
 use mathlib.Core.Path.{_≡_, refl, ap, _∙_}
 use mathlib.Core.Bool.{Bool, true, false, cond}
-use mathlib.Core.List.{List, _++_}
+use mathlib.Core.List.{List, [], _++_, append-nil}
 use lib.Dec.{ltb}
 use lib.ListN.{length}
 use borrow.Author.Tests.{lt-ltb}
 use Rattle.fields.specs.Fields.{Bytes}
 use Rattle.rows.specs.Lent.{rowsLent}
-use Rattle.meaning.specs.Recovery.{Recovery, recovered, refusedSnapshot, refusedLog, recover, liveCount, recordCount}
-use Rattle.meaning.specs.Calls.{recoverCall, recoverTables, recoveryTold}
+use Rattle.meaning.specs.Recovery.{Recovery, recovered, refusedSnapshot, refusedLog, recover, liveCount}
+use Rattle.meaning.specs.Calls.{recoverCall, recoveryTold}
 use Rattle.theorems.specs.Sums.{exampleSnapshot, exampleLog, exampleRecovered}
 use Rattle.theorems.proofs.SumsComputed.{sums}
 use Rattle.listing_text.specs.Decimal.{decimalBy, decimal}
 use Rattle.listing_text.specs.Lines.{ascii, firstLine, refusedLine}
-use Rattle.listing_text.specs.Listing.{fitted, headingOf, nodeLines, listingText, refusalLineCall, nodeLineCall}
+use Rattle.listing_text.specs.Listing.{fitted, headingOf, nodeLines, listingText, refusalLineCall}
 use Rattle.listing_text.specs.Files.{listingFileLimit, listingRows, longestLine, File, found, unreadable, listed, listingOf}
 use Rattle.listing_text.specs.declared.Stopped.the-variants as Stops
 use Rattle.listing_text.proofs.LineLaws.{fitted-whole}
 use Rattle.listing_text.proofs.FileLaws.{both-listed}
 use Rattle.listing_text.proofs.Example.{file-refused}
-use Rattle.listing_theorems.specs.ListingCalled.{textOf, calledFrom}
-use Rattle.listing_theorems.specs.ListingFiles.{Lent, LentAsListed, storeWritten, fileWritten, written, OfBytes, Unlisted, ListingFiles}
+use Rattle.listing_theorems.specs.ListingCalled.{textOf}
+use Rattle.listing_theorems.specs.ListingFiles.{Lent, LentAsListed, nodesWritten, storeWritten, fileWritten, written, OfBytes, Unlisted, ListingFiles}
 use Rattle.listing_theorems.proofs.Short.{snapshot-line-short, log-line-short, file-line-short, refused-inside, recovered-line-short}
 use Rattle.listing_theorems.proofs.Proved.{listing-called}
 
@@ -37,18 +37,20 @@ module _ (l : Lent) (lent : LentAsListed l) where
   file-line : textOf (refusalLineCall Stops.File (l .line)) ≡ refusedLine Stops.File
   file-line = line-written (l .line) (refusedLine Stops.File) file-line-short (lent .line-fits)
 
+  -- a line that nothing follows
+  alone-written : (line : List ℕ) → length line ≤ longestLine → textOf (fitted (l .line) line) ++ [] ≡ line
+  alone-written line short = append-nil (textOf (fitted (l .line) line)) ∙ line-written (l .line) line short (lent .line-fits)
+
   module _ (snapshot log : List ℕ) (bs : Bytes snapshot) (bl : Bytes log) where
     answer-written : (x : Recovery) → recoverCall (l .rows) (l .active) snapshot log ≡ x → storeWritten l snapshot log x ≡ listingText snapshot log x
     answer-written (recovered r) e =
         let first = firstLine (headingOf (recoveryTold log r)) in
         let short = recovered-line-short (rowsLent (l .rows) (l .active)) snapshot log r bs bl e in
-        ap (λ (line : List ℕ). line ++ calledFrom (λ n. nodeLineCall (r .config .dimensions) (recoverTables (l .rows) (l .active) (recovered r) .rows) (recordCount r) n snapshot log (l .lines n)) (recordCount r) 0)
-        (line-written (l .line) first short (lent .line-fits))
+        ap (λ (line : List ℕ). line ++ nodesWritten l snapshot log (recovered r)) (line-written (l .line) first short (lent .line-fits))
         ∙ listing-called .listing-called (l .rows) (l .active) snapshot log r bs bl e (l .lines) (lent .lines-fit)
-    answer-written (refusedSnapshot why) e = line-written (l .line) (refusedLine (Stops.Snapshot why)) (snapshot-line-short why) (lent .line-fits)
+    answer-written (refusedSnapshot why) e = alone-written (refusedLine (Stops.Snapshot why)) (snapshot-line-short why)
     answer-written (refusedLog why at) e =
-        let inside = refused-inside (rowsLent (l .rows) (l .active)) snapshot log why at e in
-        line-written (l .line) (refusedLine (Stops.Log why at)) (log-line-short why at inside) (lent .line-fits)
+        alone-written (refusedLine (Stops.Log why at)) (log-line-short why at (refused-inside (rowsLent (l .rows) (l .active)) snapshot log why at e))
 
     store-written : storeWritten l snapshot log (recoverCall (l .rows) (l .active) snapshot log) ≡ listingText snapshot log (recover listingRows snapshot log)
     store-written =

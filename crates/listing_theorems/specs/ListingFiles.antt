@@ -3,15 +3,16 @@
 use Prim.Native.Nat.{ℕ, _*_, _≤_, _<_}
 use mathlib.Core.Path.{_≡_}
 use mathlib.Core.Bool.{cond}
-use mathlib.Core.List.{List, _++_}
+use mathlib.Core.List.{List, [], _++_}
 use lib.Dec.{ltb}
 use lib.ListN.{length}
 use Rattle.fields.specs.Fields.{Bytes}
 use Rattle.meaning.specs.Recovery.{Recovery, recovered, refusedSnapshot, refusedLog, recover, recordCount}
-use Rattle.meaning.specs.Calls.{recoverCall, recoverTables, recoveryTold}
+use Rattle.meaning.specs.Calls.{recoverCall, recoverTables}
+use Rattle.recovery.specs.Told.{recoveryAnswer}
 use Rattle.theorems.specs.Sums.{exampleSnapshot, exampleLog}
 use Rattle.listing_text.specs.Lines.{ascii}
-use Rattle.listing_text.specs.Listing.{headingOf, listingText, firstLineCall, refusalLineCall, nodeLineCall}
+use Rattle.listing_text.specs.Listing.{listingText, refusalLineCall, answerLineCall, nodeLineCall}
 use Rattle.listing_text.specs.Files.{listingFileLimit, listingRows, longestLine, File, found, unreadable, listingOf}
 use Rattle.listing_text.specs.declared.Stopped.the-variants as Stops
 use Rattle.listing_theorems.specs.ListingCalled.{textOf, calledFrom}
@@ -32,13 +33,16 @@ pub record LentAsListed (l : Lent) : Type 0 where
   pub line-fits : longestLine ≤ length (l .line)
   pub lines-fit : (n : ℕ) → longestLine ≤ length (l .lines n)
 
--- what `list_store` writes of an answer of recovery: the first line and each node's, or the refusal's
+-- what `list_nodes` writes of a store: a line for each node; of a refused one it is not called
+abbrev pub nodesWritten : Lent → List ℕ → List ℕ → Recovery → List ℕ
+nodesWritten l snapshot log (recovered r) =
+    calledFrom (λ n. nodeLineCall (r .config .dimensions) (recoverTables (l .rows) (l .active) (recovered r) .rows) (recordCount r) n snapshot log (l .lines n)) (recordCount r) 0
+nodesWritten l snapshot log (refusedSnapshot why) = []
+nodesWritten l snapshot log (refusedLog why at) = []
+
+-- what `list_store` writes: the line that recovery's answer is told by, and the nodes'
 abbrev pub storeWritten : Lent → List ℕ → List ℕ → Recovery → List ℕ
-storeWritten l snapshot log (recovered r) =
-    textOf (firstLineCall (headingOf (recoveryTold log r)) (l .line))
-    ++ calledFrom (λ n. nodeLineCall (r .config .dimensions) (recoverTables (l .rows) (l .active) (recovered r) .rows) (recordCount r) n snapshot log (l .lines n)) (recordCount r) 0
-storeWritten l snapshot log (refusedSnapshot why) = textOf (refusalLineCall (Stops.Snapshot why) (l .line))
-storeWritten l snapshot log (refusedLog why at) = textOf (refusalLineCall (Stops.Log why at) (l .line))
+storeWritten l snapshot log x = textOf (answerLineCall (recoveryAnswer log x) (l .line)) ++ nodesWritten l snapshot log x
 
 -- a file that was not read, or that its room does not hold, ends it
 abbrev pub fileWritten : Lent → File → (List ℕ → List ℕ) → List ℕ

@@ -7,7 +7,7 @@ ghost use lib.ListN.{length};
 ghost use Rattle.crc32.specs.Steps.{Rows};
 ghost use Rattle.config.specs.Limits.{minFrame, maxDimensions};
 ghost use Rattle.layout.specs.Layout.{itemLength, frameLength};
-ghost use Rattle.meaning.specs.Calls.{frameCall};
+ghost use Rattle.meaning.specs.Calls.{frameCall, idOffset, operationWithin, operationCall};
 ghost use Rattle.meaning.specs.Log.{putRow, operationAt, operationsAt, batchAt, operationsOf, shapeOf, outOfOrder, decodedAt, frameRead, frameAt};
 ghost use Rattle.log.specs.Stored.{Stored};
 ghost use Rattle.log.specs.Told.{operationRead, operationTold, nextTold, nextsTold, operationCount, frameTold};
@@ -281,6 +281,51 @@ fn valid_frame(config: Config, log: &[u8], previous: u64, at: usize) -> ReadFram
     }
     let tables = crc32::tables();
     read_frame(&tables, config, log, previous, at)
+}
+
+// An operation of a frame for users, behind the tests of the settings: 6, 7, 8. `shape` is the frame's, `end` the byte behind its
+// operations, and the tag stands at `at`.
+pub fn operation_at(
+    config: Config,
+    log: &[u8],
+    shape: Shape,
+    end: usize,
+    at: usize,
+) -> ReadOperation
+    ensures { λ r. ⌜ r ≡ operationTold (operationCall config (now (log .entry)) shape end at) ⌝ }
+{
+    match config.validate() {
+        Checked::Passed => valid_operation(config, log, shape, end, at),
+        Checked::Refused(why) => ReadOperation::Refused(why),
+    }
+}
+
+// From an operation's tag to its ID.
+fn id_offset(shape: Shape) -> usize
+    ensures { λ r. ⌜ (r ≡ idOffset shape) × (1 ≤ r) ⌝ }
+{
+    match shape {
+        Shape::Single => layout::OPCODE_AND_SEQUENCE,
+        Shape::Batch => 1,
+    }
+}
+
+// Any `end` and any `at` can be handed in.
+fn valid_operation(config: Config, log: &[u8], shape: Shape, end: usize, at: usize) -> ReadOperation
+    requires { ⌜ config .dimensions ≤ maxDimensions ⌝ }
+    ensures { λ r. ⌜ r ≡ operationTold (operationWithin config (now (log .entry)) shape end at) ⌝ }
+{
+    let offset = id_offset(shape);
+    if log.len() < end {
+        return ReadOperation::Refused(Refusal::PastTheEnd);
+    }
+    if end < at {
+        return ReadOperation::Refused(Refusal::PastTheEnd);
+    }
+    if end - at < offset {
+        return ReadOperation::Refused(Refusal::PastTheEnd);
+    }
+    read_operation(config, log, end, log[at], at + offset)
 }
 
 // Internal: the settings are valid, `end` is not past the log's end, and the operation there was accepted.

@@ -13,6 +13,8 @@ door-calls =
       door-read-snapshot-one-answer = λ bytes rows active r s x y z w m n. (one-answer (m .result-is) (n .result-is), one-answer (m .rows-are) (n .rows-are), one-answer (m .active-is) (n .active-is));
       door-recover-contract = λ κs snapshot log rows active r rows' active' p. record { result-is = p .0; rows-are = p .1 .0; active-is = p .1 .1 };
       door-recover-one-answer = λ snapshot log rows active r s x y z w m n. (one-answer (m .result-is) (n .result-is), one-answer (m .rows-are) (n .rows-are), one-answer (m .active-is) (n .active-is));
+      door-frame-at-one-answer = λ κs d m ef seed metric log previous at. exact;
+      door-operation-at-one-answer = λ κs d m ef seed metric log kind end at. exact;
       door-lookup-one-answer = λ κs rows count id. exact;
       door-caption-one-answer = λ κs snapshot log rows count node d. exact;
       door-vector-one-answer = λ κs snapshot log rows count node d. exact;

@@ -1,6 +1,8 @@
 pub mod OneAnswers
 pub mod LeavesKept
 pub mod FieldsPast
+pub mod NumbersKept
+pub mod StandardsKept
 pub mod StoreKept
 pub mod PlayoutKept
 pub mod HelpersKept
@@ -13,8 +15,10 @@ pub mod RecoverShown
 pub mod ListingKept
 pub mod DoorKept
 pub mod RefusedShown
+pub mod LogWalks
 pub mod Rewritten
 pub mod TakenOnceShown
+pub mod LogsLaidOut
 pub mod CaptionsShown
 pub mod StillsGone
 pub mod WrongShutOut

@@ -1,7 +1,7 @@
 -- What `specs/Listing.antt` says of the listing's calls and of what is listed.
 use Prim.Native.Nat.{ℕ, _≤_}
 use mathlib.Core.Path.{_≡_, refl, sym, ap, _∙_}
-use mathlib.Core.List.{List, _++_}
+use mathlib.Core.List.{List, _++_, append-nil}
 use lib.Dec.{ltb}
 use lib.ListN.{length, take}
 use Rattle.refusal.specs.declared.Refusal.the-variants.{OutputTooShort}
@@ -19,11 +19,12 @@ use Rattle.meaning.specs.Calls.{outputAfter}
 use Rattle.recovery.specs.declared.Recovery.{Recovery}
 use Rattle.recovery.specs.declared.RecoveryInfo.{RecoveryInfo}
 use Rattle.listing_text.specs.Lines.{firstLine, refusedLine, nodeLine}
-use Rattle.listing_text.specs.Listing.{nodeLines, listingText, fitted, firstLineCall, refusalLineCall, nodeLineCall}
+use Rattle.listing_text.specs.Listing.{headingShown, answerLine, nodeLines, listingText, fitted, firstLineCall, refusalLineCall, answerLineCall, nodeLineCall}
 use Rattle.listing_text.specs.Files.{listingFileLimit, listingRows, found, listingOf}
 use Rattle.listing_text.proofs.FileLaws.{both-listed}
+use Rattle.listing_text.specs.declared.Stopped.the-variants as Stops
 use Rattle.promises.specs.Recover.{Recovers, recordsShown}
-use Rattle.promises.specs.Listing.{headingShown, listingShown, NodeLineMeets, LineLeft, ListingCalls}
+use Rattle.promises.specs.Listing.{listingShown, NodeLineMeets, LineLeft, ListingCalls}
 use Rattle.promises.proofs.OneAnswers.{one-answer}
 use Rattle.promises.proofs.Outputs.{written-holds, untouched}
 use Rattle.promises.proofs.RecoverShown.{by-answer, shows}
@@ -52,7 +53,7 @@ listing-shown : (lent : ℕ) (snapshot log : List ℕ) → Bytes snapshot → By
 listing-shown lent snapshot log bs bl r words =
     by-answer lent snapshot log bs bl words (λ x. listingShown snapshot log x words) (listingText snapshot log)
     (λ i call. ap (λ (x : RecoveryInfo). firstLine (headingShown x) ++ nodeLines 0 (recordsShown snapshot log i words)) (shows lent snapshot log i words bs bl call .told-is))
-    (λ why. refl) (λ why at. refl) r
+    (λ why. append-nil (refusedLine (Stops.Snapshot why))) (λ why at. append-nil (refusedLine (Stops.Log why at))) r
 
 listing-of-files : (snapshot log : List ℕ) → Bytes snapshot → Bytes log → length snapshot ≤ listingFileLimit → length log ≤ listingFileLimit
     → (r : Recovery) (words : List ℕ) → Recovers listingRows snapshot log r words → listingShown snapshot log r words ≡ listingOf (found snapshot) (found log)
@@ -70,13 +71,17 @@ listing-calls =
       number-line-one-answer = λ words n out r s x y m n'. (one-answer (m .result-is) (n' .result-is), one-answer (m .output-is) (n' .output-is));
       log-line-contract = λ κs number at out r after p. record { result-is = p .0; output-is = p .1 };
       log-line-one-answer = λ number at out r s x y m n. (one-answer (m .result-is) (n .result-is), one-answer (m .output-is) (n .output-is));
+      answer-line-contract = λ κs answer out r after p. record { result-is = p .0; output-is = p .1 };
+      answer-line-one-answer = λ answer out r s x y m n. (one-answer (m .result-is) (n .result-is), one-answer (m .output-is) (n .output-is));
       node-line-contract = λ κs snapshot log rows count node d out r after p. record { result-is = p .0; output-is = p .1 };
       node-line-one-answer = λ snapshot log rows count node d out r s x y m n. (one-answer (m .result-is) (n .result-is), one-answer (m .output-is) (n .output-is));
       first-line-left = λ heading n out after m. line-left (firstLine heading) n out after (m .result-is) (m .output-is);
       refusal-line-left = λ stopped n out after m. line-left (refusedLine stopped) n out after (m .result-is) (m .output-is);
+      answer-line-left = λ answer n out after m. line-left (answerLine answer) n out after (m .result-is) (m .output-is);
       node-line-left = node-line-left;
       first-line-untouched = λ heading out why after m. untouched (firstLineCall heading out) why out after (m .result-is) (m .output-is);
       refusal-line-untouched = λ stopped out why after m. untouched (refusalLineCall stopped out) why out after (m .result-is) (m .output-is);
+      answer-line-untouched = λ answer out why after m. untouched (answerLineCall answer out) why out after (m .result-is) (m .output-is);
       node-line-untouched = λ snapshot log rows count node d out why after m. untouched (nodeLineCall d rows count (node .0) snapshot log out) why out after (m .result-is) (m .output-is);
       listing-shown = listing-shown;
       listing-of-files = listing-of-files;

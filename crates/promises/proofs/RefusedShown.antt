@@ -1,12 +1,12 @@
 -- What `specs/Refused.antt` says of refused calls.
 use Prim.Native.Nat.{ℕ, _-_, _≤_, _<_}
 use native.Mathlib.Omega.{arith}
-use mathlib.Core.Path.{_≡_, refl, sym, ap, _∙_, subst}
+use mathlib.Core.Path.{_≡_, refl, sym, ap, ap₂, _∙_, subst}
 use mathlib.Core.Bool.{Bool, true, false, cond}
 use mathlib.Core.List.{List, []}
 use lib.ListN.{length, replicate}
 use lib.Dec.{ltb}
-use borrow.Author.Tests.{ltb-false}
+use borrow.Author.Tests.{ltb-false, le-ltb}
 use Rattle.refusal.specs.declared.Refusal.{Refusal}
 use Rattle.refusal.specs.declared.Refusal.the-variants as Refusals
 use Rattle.refusal.specs.Refusal.{Result, answer, refused, number, writtenTold}
@@ -38,6 +38,7 @@ use Rattle.recovery.specs.declared.Recovery.{Recovery}
 use Rattle.recovery.specs.declared.RecoveryInfo.{RecoveryInfo}
 use Rattle.recovery.specs.declared.Recovery.the-variants as Recoveries
 use Rattle.recovery.specs.Told.{recoveryAnswer, recoveryNumber, recoveryByte}
+use Rattle.lambspool.proofs.RefusalText.{snapshot-text, log-text, file-text}
 use Rattle.lambspool.specs.Asked.{cacheAsked, writeAsked, encodeAsked}
 use Rattle.lambspool.specs.Said.{snapshotSaid, storeSaid, cacheSaid, bytesSaid}
 use Rattle.lambspool.specs.declared.Snapshot.{Snapshot as SnapshotSaid}
@@ -127,6 +128,13 @@ snapshot-refused lent snapshot log why e = first (ltb maxLogBytes (length log)) 
     first true e h = absurd (let z : _≡_ {A = ℕ} 0 1 = cc in omega arith)
     first false e h = (ltb-false maxLogBytes (length log) e, second (readSnapshot lent snapshot) refl h)
 
+-- and the other way
+snapshot-refused-if : (lent : ℕ) (snapshot log : List ℕ) (why : Refusal) → length log ≤ maxLogBytes → readSnapshot lent snapshot ≡ refused why
+    → recover lent snapshot log ≡ Meant.refusedSnapshot why
+unfolding recover
+snapshot-refused-if lent snapshot log why h e =
+    ap₂ (λ (b : Bool) (x : Result Snapshot). cond b (Meant.refusedLog Refusals.LogTooLong 0) (withSnapshot lent log x)) (le-ltb maxLogBytes (length log) h) e
+
 -- the answer of a call, by what the definition gives with as many rows lent
 answer-is : (lent : ℕ) (snapshot log : List ℕ) (r : Recovery) (words : List ℕ) → Recovers lent snapshot log r words → r ≡ recoveryAnswer log (recover lent snapshot log)
 answer-is lent snapshot log r words call = call .meets .result-is ∙ ap (λ (n : ℕ). recoveryAnswer log (recover n snapshot log)) (call .as-many)
@@ -143,9 +151,13 @@ refused-rightly lent snapshot log r words call h =
     go (Meant.refusedLog why at) e h = refused-at lent snapshot log why at e
 
 refused-if-so : (lent : ℕ) (snapshot log : List ℕ) (r : Recovery) (words : List ℕ) → Recovers lent snapshot log r words
-    → (why : Refusal) (at : ℕ) → RefusedAt lent snapshot log why at → r ≡ Recoveries.RefusedLog why at
-refused-if-so lent snapshot log r words call why at h =
-    answer-is lent snapshot log r words call ∙ ap (recoveryAnswer log) (refused-if lent snapshot log why at h)
+    → (right : Recovery) → RefusedRightly lent snapshot log right → r ≡ right
+refused-if-so lent snapshot log r words call right h = answer-is lent snapshot log r words call ∙ go right h
+  where
+    go : (right : Recovery) → RefusedRightly lent snapshot log right → recoveryAnswer log (recover lent snapshot log) ≡ right
+    go (Recoveries.Recovered i) h = absurd h
+    go (Recoveries.RefusedSnapshot why) h = ap (recoveryAnswer log) (snapshot-refused-if lent snapshot log why (h .0) (h .1))
+    go (Recoveries.RefusedLog why at) h = ap (recoveryAnswer log) (refused-if lent snapshot log why at h)
 
 -- ---- lent tables
 no-rows : (words : List ℕ) → filled (length words) (rowWords []) ≡ replicate (length words) 0
@@ -249,6 +261,9 @@ refused-calls =
       encode-batch-untouched = λ config sequence operations coordinates captions out why after m. untouched (encodeCall Batch config sequence operations coordinates captions out) why out after (m .result-is) (m .output-is);
       host-delete-untouched = host-delete-untouched;
       door-tells = door-tells;
+      snapshot-text = snapshot-text;
+      log-text = log-text;
+      file-text = file-text;
       door-recover-zeros = door-recover-zeros;
       door-read-zeros = door-read-zeros;
       door-cache-zeros = λ bytes d m ef seed metric crc sequence count starts r after k.

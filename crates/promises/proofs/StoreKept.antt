@@ -45,5 +45,7 @@ encoder-calls =
 pub log-calls : LogCalls
 log-calls =
     record {
-      frame-at-one-answer = λ κs config log previous at. exact;
+      frame-at-contract = λ κs config log previous at r p. record { result-is = p };
+      frame-at-one-answer = λ config log previous at r s m n. one-answer (m .result-is) (n .result-is);
+      log-operation-at-one-answer = λ κs config log shape end at. exact;
     }

@@ -17,10 +17,11 @@ use Rattle.recovery.specs.Told.{recoveryAnswer}
 use Rattle.views.specs.Told.{foundTold, viewed}
 use Rattle.graph.specs.Neighbours.{neighbours}
 use Rattle.graph.specs.Told.{cacheTold, startsAfter, shownTold}
-use Rattle.lambspool.specs.Asked.{cacheAsked, writeAsked, encodeAsked}
+use Rattle.log.specs.Told.{frameTold, operationTold}
+use Rattle.lambspool.specs.Asked.{frameAsked, operationAsked, cacheAsked, writeAsked, encodeAsked}
 use Rattle.listing_text.specs.Listing.{fitted, firstLineCall, nodeLineCall}
 use Rattle.lambspool.specs.Lines.{heading, refusalText}
-use Rattle.lambspool.specs.Said.{snapshotSaid, storeSaid, foundSaid, partSaid, cacheSaid, neighboursSaid, bytesSaid}
+use Rattle.lambspool.specs.Said.{snapshotSaid, storeSaid, frameSaid, operationSaid, foundSaid, partSaid, cacheSaid, neighboursSaid, bytesSaid}
 use Rattle.lambspool.specs.declared.Snapshot.{Snapshot}
 use Rattle.lambspool.specs.declared.Store.{Store}
 use Rattle.lambspool.specs.declared.Cache.{Cache}
@@ -31,6 +32,8 @@ use Rattle.lambspool.proofs.lambspool_crc32_finish.Reads as CrcFinishCall
 use Rattle.lambspool.proofs.lambspool_crc32_of.Reads as CrcOfCall
 use Rattle.lambspool.proofs.lambspool_read_snapshot.Reads as ReadSnapshotCall
 use Rattle.lambspool.proofs.lambspool_recover.Reads as RecoverCall
+use Rattle.lambspool.proofs.lambspool_frame_at.Reads as FrameAtCall
+use Rattle.lambspool.proofs.lambspool_operation_at.Reads as OperationAtCall
 use Rattle.lambspool.proofs.lambspool_lookup.Reads as LookupCall
 use Rattle.lambspool.proofs.lambspool_caption.Reads as CaptionCall
 use Rattle.lambspool.proofs.lambspool_vector.Reads as VectorCall
@@ -115,6 +118,14 @@ pub record DoorCalls : Type 0 where
       → RecoverCall.Learnt κs (snapshot, (log, (rows, (active, tt)))) r (snapshot, (log, (rows', (active', tt))))
       → DoorRecoverMeets (now snapshot) (now log) (now rows) (now active) r (now rows') (now active')
   pub door-recover-one-answer : (snapshot log rows active : List ℕ) → OneOfThree (DoorRecoverMeets snapshot log rows active)
+  -- lambspool_frame_at(d, m, ef, seed, metric, log, previous, at)
+  pub door-frame-at-one-answer : (κs : _) (d m ef seed metric : ℕ) (log : RefT (List ℕ)) (previous at : ℕ)
+      → Gives (frameSaid (frameTold (frameAsked d m ef seed metric (now log) previous at)))
+      (λ r. FrameAtCall.Learnt κs (d, (m, (ef, (seed, (metric, (log, (previous, (at, tt)))))))) r (d, (m, (ef, (seed, (metric, (log, (previous, (at, tt)))))))))
+  -- lambspool_operation_at(d, m, ef, seed, metric, log, kind, end, at)
+  pub door-operation-at-one-answer : (κs : _) (d m ef seed metric : ℕ) (log : RefT (List ℕ)) (kind end at : ℕ)
+      → Gives (operationSaid d (operationTold (operationAsked d m ef seed metric (now log) kind end at)))
+      (λ r. OperationAtCall.Learnt κs (d, (m, (ef, (seed, (metric, (log, (kind, (end, (at, tt))))))))) r (d, (m, (ef, (seed, (metric, (log, (kind, (end, (at, tt))))))))))
   -- lambspool_lookup(rows, count, id)
   pub door-lookup-one-answer : (κs : _) (rows : RefT (List ℕ)) (count id : ℕ)
       → Gives (foundSaid (foundTold (lookup (now rows) count id))) (λ r. LookupCall.Learnt κs (rows, (count, (id, tt))) r (rows, (count, (id, tt))))

@@ -1,17 +1,22 @@
 -- The calls between our crates (`// Internal:` in the source), as `Leaves` and `Store` have those that are offered to users. What a
--- helper asks of its caller is not needed for this: whatever it was handed, its contract gives one answer. Not here
--- are `sort_by_id`, which may leave rows of one ID in any order, `eliminate`, whose bytes are any that lead to the same register, and
--- `set_link`, `attach` and the crate `tree`, whose contracts say what holds of a tree and not each word of it.
+-- helper asks of its caller is not needed for this, `tree::find` apart: whatever it was handed, its contract gives one answer.
+-- Ten are not here, since their contracts leave something open, which no call for users shows:
+-- `sorting::sort_by_id`: in which order entries of one ID stand
+-- `elimination::eliminate`: which bytes, of all that lead to the same register
+-- `pieces::behind`, `pieces::ahead`: how many bytes have gone into a sum
+-- `links::set_link`, `links::attach`: each word as such; said is what every cell holds, and the rows
+-- `tree::mark`, `tree::put`, `tree::begin`: the links in the words; said are the rows, and what the tree finds
+-- `replay::apply_frame`: the tree likewise; after a refusal, what the tables hold
 use Prim.Native.Nat.{ℕ, _*_}
 use mathlib.Core.Path.{_≡_}
 use mathlib.Core.Bool.{Bool}
 use mathlib.Core.List.{List, _∷_, _++_}
-use lib.ListN.{length, take, replicate}
+use lib.ListN.{length, take, drop, replicate}
 use denote.Ref.{RefT, now}
 use Rattle.refusal.specs.declared.Refusal.{Refusal}
 use Rattle.refusal.specs.declared.Measured.{Measured}
 use Rattle.refusal.specs.Refusal.{checked, measured}
-use Rattle.crc32.specs.Crc.{bytesIn, crcOf}
+use Rattle.crc32.specs.Crc.{allOnes, bytesIn, crcOf}
 use Rattle.config.specs.declared.Config.{Config}
 use Rattle.layout.specs.Layout.{captionOffset, itemLength, recordLength, frameHead}
 use Rattle.fields.specs.Fields.{part, num, bytes}
@@ -33,7 +38,11 @@ use Rattle.active.specs.Active.{activated, rowsLeft, entriesLeft}
 use Rattle.frames.specs.Envelope.{envelopeAt}
 use Rattle.meaning.specs.Log as Meant
 use Rattle.log.specs.Told.{operationTold, frameTold}
-use Rattle.links.specs.Links.{plainWord, deletedWord, captionLength, linkIn}
+use Rattle.links.specs.Links.{plainWord, deletedWord, captionLength, linkIn, plainRows}
+use Rattle.pieces.specs.declared.Sum.{Sum}
+use Rattle.tree.specs.declared.Tree.{Tree}
+use Rattle.tree.specs.declared.Place.{Place}
+use Rattle.tree.specs.Grown.{Finds, Grown, cellOf}
 use Rattle.crc32.proofs.crc32_with.Reads as Crc32WithCall
 use Rattle.crc32.proofs.update.Reads as CrcUpdateCall
 use Rattle.layout.proofs.caption_offset.Reads as CaptionOffsetCall
@@ -71,7 +80,11 @@ use Rattle.links.proofs.deleted_word.Reads as DeletedWordCall
 use Rattle.links.proofs.caption_length.Reads as CaptionLengthCall
 use Rattle.links.proofs.link_at.Reads as LinkAtCall
 use Rattle.sources.proofs.cut.Reads as CutCall
-use Rattle.promises.specs.OneAnswer.{OneEach, OneOfThree, OneView, Gives, LentAfter}
+use Rattle.pieces.proofs.none.Reads as PiecesNoneCall
+use Rattle.pieces.proofs.finish.Reads as PiecesFinishCall
+use Rattle.tree.proofs.find.Reads as FindCall
+use Rattle.tree.proofs.finish.Reads as TreeFinishCall
+use Rattle.promises.specs.OneAnswer.{One, OneEach, OneOfThree, OneView, Gives, LentAfter}
 
 -- ---- crc32
 pub record Crc32Helpers : Type 0 where
@@ -229,3 +242,26 @@ pub record LinksHelpers : Type 0 where
   -- link_at(words, entries, root, cell)
   pub link-at-one-answer : (κs : _) (words entries : RefT (List ℕ)) (root cell : ℕ)
       → Gives (linkIn root (now words) (now entries) cell) (λ r. LinkAtCall.Learnt κs (words, (entries, (root, (cell, tt)))) r (words, (entries, (root, (cell, tt)))))
+
+-- ---- pieces
+pub record PiecesHelpers : Type 0 where
+  -- none()
+  pub pieces-none-one-answer : (κs : _) → Gives (record { register = allOnes; upto = 0 }) (λ r. PiecesNoneCall.Learnt κs tt r tt)
+  -- finish(sum, bytes, end)
+  pub pieces-finish-one-answer : (κs : _) (sum : Sum) (bytes : RefT (List ℕ)) (end : ℕ)
+      → Gives (crcOf (take end (now bytes))) (λ r. PiecesFinishCall.Learnt κs (sum, (bytes, (end, tt))) r (sum, (bytes, (end, tt))))
+
+-- ---- tree
+-- find(words, entries, tree, id): the link of the ID's live row, and the cell where its way ends
+pub record FindMeets (words entries : List ℕ) (tree : Tree) (id : ℕ) (r : Place) : Type 0 where
+  pub finds : Finds (plainRows words) (tree .count) id (r .link)
+  pub cell-is : r .cell ≡ cellOf tree words entries id
+
+pub record TreeHelpers : Type 0 where
+  pub tree-find-contract : (κs : _) (words entries : RefT (List ℕ)) (tree : Tree) (id : ℕ) (r : Place)
+      → FindCall.Learnt κs (words, (entries, (tree, (id, tt)))) r (words, (entries, (tree, (id, tt)))) → FindMeets (now words) (now entries) tree id r
+  -- no ID is live twice in a tree, which is what the call asks
+  pub tree-find-one-answer : (words entries : List ℕ) (tree : Tree) (id : ℕ) → Grown tree words entries → One (FindMeets words entries tree id)
+  -- finish(words, tree)
+  pub tree-finish-one-answer : (κs : _) (words : RefT (List ℕ)) (tree : Tree)
+      → LentAfter (take (2 * tree .count) (plainRows (now words)) ++ drop (2 * tree .count) (now words)) (λ after. TreeFinishCall.Learnt κs (words, (tree, tt)) tt (after, (tree, tt)))

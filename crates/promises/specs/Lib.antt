@@ -1,6 +1,8 @@
 pub mod OneAnswer
 pub mod Leaves
 pub mod PastTheEnd
+pub mod Numbered
+pub mod ByStandards
 pub mod Store
 pub mod Playout
 pub mod Helpers
@@ -13,8 +15,10 @@ pub mod Recover
 pub mod Listing
 pub mod Door
 pub mod Refused
+pub mod LogWalked
 pub mod RecoverWriteRecover
 pub mod RecoveredOnce
+pub mod LogLaidOut
 pub mod CaptionsOfDeleted
 pub mod StillGone
 pub mod WrongRecoveries

@@ -1,7 +1,7 @@
 -- The calls that write the listing's lines, as `Store` has its calls; and what an answer of `recover` is listed as.
 use Prim.Native.Nat.{ℕ, _≤_}
 use mathlib.Core.Path.{_≡_}
-use mathlib.Core.List.{List, _++_}
+use mathlib.Core.List.{List, [], _++_}
 use lib.ListN.{length, take, drop}
 use denote.Ref.{RefT, now}
 use Rattle.refusal.specs.declared.Refusal.{Refusal}
@@ -15,10 +15,9 @@ use Rattle.meaning.specs.Records.{seen}
 use Rattle.meaning.specs.Recovery.{recover}
 use Rattle.meaning.specs.Calls.{outputAfter}
 use Rattle.recovery.specs.declared.Recovery.{Recovery}
-use Rattle.recovery.specs.declared.RecoveryInfo.{RecoveryInfo}
 use Rattle.recovery.specs.declared.Recovery.the-variants as Recoveries
 use Rattle.listing_text.specs.Lines.{ascii, named, newline, firstLine, refusedLine, nodeLine}
-use Rattle.listing_text.specs.Listing.{nodeLines, listingText, fitted, firstLineCall, refusalLineCall, nodeLineCall}
+use Rattle.listing_text.specs.Listing.{answerLine, nodeLines, listingText, fitted, firstLineCall, refusalLineCall, answerLineCall, nodeLineCall}
 use Rattle.listing_text.specs.Files.{listingFileLimit, listingRows, found, listingOf}
 use Rattle.listing_text.specs.declared.Heading.{Heading}
 use Rattle.listing_text.specs.declared.Stopped.{Stopped}
@@ -27,6 +26,7 @@ use Rattle.listing_text.proofs.first_line.Reads as FirstLineCall
 use Rattle.listing_text.proofs.refusal_line.Reads as RefusalLineCall
 use Rattle.listing_text.proofs.number_line.Reads as NumberLineCall
 use Rattle.listing_text.proofs.log_line.Reads as LogLineCall
+use Rattle.listing_text.proofs.answer_line.Reads as AnswerLineCall
 use Rattle.listing_text.proofs.node_line.Reads as NodeLineCall
 use Rattle.promises.specs.OneAnswer.{OneEach}
 use Rattle.promises.specs.Recover.{Recovers, recordsShown}
@@ -56,24 +56,20 @@ pub record NodeLineMeets (snapshot log rows : List ℕ) (count : ℕ) (node : No
   pub result-is : r ≡ writtenTold (nodeLineCall d rows count (node .0) snapshot log out)
   pub output-is : after ≡ outputAfter out (nodeLineCall d rows count (node .0) snapshot log out)
 
--- what the first line tells of an answer
-abbrev pub headingShown : RecoveryInfo → Heading
-headingShown i =
-    record {
-      sequence = i .sequence;
-      records = i .records;
-      active = i .active;
-      replayed = i .replayed;
-      skipped = i .skipped;
-      keep = i .keep;
-      tail = i .tail;
-    }
+-- answer_line(answer, out): as `first_line`
+pub record AnswerLineMeets (answer : Recovery) (out : List ℕ) (r : Written) (after : List ℕ) : Type 0 where
+  pub result-is : r ≡ writtenTold (answerLineCall answer out)
+  pub output-is : after ≡ outputAfter out (answerLineCall answer out)
 
--- the listing of an answer with the row words beside it: the first line and each node's, or the refusal's line
+-- a line for each node of an answer, as the row words beside it have them
+abbrev pub nodesShown : List ℕ → List ℕ → Recovery → List ℕ → List ℕ
+nodesShown snapshot log (Recoveries.Recovered i) words = nodeLines 0 (recordsShown snapshot log i words)
+nodesShown snapshot log (Recoveries.RefusedSnapshot why) words = []
+nodesShown snapshot log (Recoveries.RefusedLog why at) words = []
+
+-- the listing of an answer with the row words beside it: the line that it is told by and each node's
 abbrev pub listingShown : List ℕ → List ℕ → Recovery → List ℕ → List ℕ
-listingShown snapshot log (Recoveries.Recovered i) words = firstLine (headingShown i) ++ nodeLines 0 (recordsShown snapshot log i words)
-listingShown snapshot log (Recoveries.RefusedSnapshot why) words = refusedLine (Stops.Snapshot why)
-listingShown snapshot log (Recoveries.RefusedLog why at) words = refusedLine (Stops.Log why at)
+listingShown snapshot log r words = answerLine r ++ nodesShown snapshot log r words
 
 -- an output of which n bytes were written: its first n bytes are the line, and the rest is untouched
 pub record LineLeft (line : List ℕ) (n : ℕ) (out after : List ℕ) : Type 0 where
@@ -93,6 +89,9 @@ pub record ListingCalls : Type 0 where
   pub log-line-contract : (κs : _) (number at : ℕ) (out : RefT (List ℕ)) (r : Written) (after : RefT (List ℕ))
       → LogLineCall.Learnt κs (number, (at, (out, tt))) r (number, (at, (after, tt))) → LogLineMeets number at (now out) r (now after)
   pub log-line-one-answer : (number at : ℕ) (out : List ℕ) → OneEach (LogLineMeets number at out)
+  pub answer-line-contract : (κs : _) (answer : Recovery) (out : RefT (List ℕ)) (r : Written) (after : RefT (List ℕ))
+      → AnswerLineCall.Learnt κs (answer, (out, tt)) r (answer, (after, tt)) → AnswerLineMeets answer (now out) r (now after)
+  pub answer-line-one-answer : (answer : Recovery) (out : List ℕ) → OneEach (AnswerLineMeets answer out)
   pub node-line-contract : (κs : _) (snapshot log rows : RefT (List ℕ)) (count : ℕ) (node : Node) (d : ℕ) (out : RefT (List ℕ)) (r : Written) (after : RefT (List ℕ))
       → NodeLineCall.Learnt κs (snapshot, (log, (rows, (count, (node, (d, (out, tt))))))) r (snapshot, (log, (rows, (count, (node, (d, (after, tt)))))))
       → NodeLineMeets (now snapshot) (now log) (now rows) count node d (now out) r (now after)
@@ -103,12 +102,15 @@ pub record ListingCalls : Type 0 where
       → LineLeft (firstLine heading) n out after
   pub refusal-line-left : (stopped : Stopped) (n : ℕ) (out after : List ℕ) → RefusalLineMeets stopped out (Writes.Bytes n) after
       → LineLeft (refusedLine stopped) n out after
+  pub answer-line-left : (answer : Recovery) (n : ℕ) (out after : List ℕ) → AnswerLineMeets answer out (Writes.Bytes n) after
+      → LineLeft (answerLine answer) n out after
   pub node-line-left : (snapshot log rows : List ℕ) (count : ℕ) (node : Node) (d n : ℕ) (out after : List ℕ)
       → NodeLineMeets snapshot log rows count node d out (Writes.Bytes n) after
       → LineLeft (nodeLine (node .0) (seen d snapshot log (rowAt rows (node .0)))) n out after
   -- a refused call changes no byte
   pub first-line-untouched : (heading : Heading) (out : List ℕ) (why : Refusal) (after : List ℕ) → FirstLineMeets heading out (Writes.Refused why) after → after ≡ out
   pub refusal-line-untouched : (stopped : Stopped) (out : List ℕ) (why : Refusal) (after : List ℕ) → RefusalLineMeets stopped out (Writes.Refused why) after → after ≡ out
+  pub answer-line-untouched : (answer : Recovery) (out : List ℕ) (why : Refusal) (after : List ℕ) → AnswerLineMeets answer out (Writes.Refused why) after → after ≡ out
   pub node-line-untouched : (snapshot log rows : List ℕ) (count : ℕ) (node : Node) (d : ℕ) (out : List ℕ) (why : Refusal) (after : List ℕ)
       → NodeLineMeets snapshot log rows count node d out (Writes.Refused why) after → after ≡ out
   -- what an answer is listed as is the listing that is defined

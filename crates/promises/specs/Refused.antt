@@ -6,7 +6,8 @@ use mathlib.Core.List.{List}
 use lib.ListN.{length, replicate}
 use Rattle.refusal.specs.declared.Refusal.{Refusal}
 use Rattle.refusal.specs.declared.Written.the-variants as Writes
-use Rattle.refusal.specs.Refusal.{refused}
+use Rattle.refusal.specs.declared.Refusal.the-variants.{FileUnreadable}
+use Rattle.refusal.specs.Refusal.{number, refused}
 use Rattle.config.specs.Limits.{maxLogBytes}
 use Rattle.config.specs.declared.Config.{Config}
 use Rattle.meaning.specs.Snapshot.{readSnapshot}
@@ -18,6 +19,9 @@ use Rattle.recovery.specs.declared.Recovery.{Recovery}
 use Rattle.recovery.specs.declared.RecoveryInfo.{RecoveryInfo}
 use Rattle.recovery.specs.declared.Recovery.the-variants as Recoveries
 use Rattle.recovery.specs.Told.{recoveryNumber, recoveryByte}
+use Rattle.listing_text.specs.Lines.{refusedLine}
+use Rattle.listing_text.specs.declared.Stopped.the-variants as Stops
+use Rattle.lambspool.specs.Lines.{refusalText}
 use Rattle.lambspool.specs.Said.{storeSaid}
 use Rattle.lambspool.specs.declared.Snapshot.{Snapshot as SnapshotSaid}
 use Rattle.lambspool.specs.declared.Store.{Store}
@@ -44,9 +48,9 @@ pub record Refused : Type 0 where
   pub accepted-by-number : (r : Recovery) → recoveryNumber r ≡ 0 → (i : RecoveryInfo) × (r ≡ Recoveries.Recovered i)
   pub refused-rightly : (lent : ℕ) (snapshot log : List ℕ) (r : Recovery) (words : List ℕ) → Recovers lent snapshot log r words → 0 < recoveryNumber r
       → RefusedRightly lent snapshot log r
-  -- the other way: a log that is to be refused so is refused so
+  -- the other way: what is to be refused so, snapshot or log, is refused so
   pub refused-if-so : (lent : ℕ) (snapshot log : List ℕ) (r : Recovery) (words : List ℕ) → Recovers lent snapshot log r words
-      → (why : Refusal) (at : ℕ) → RefusedAt lent snapshot log why at → r ≡ Recoveries.RefusedLog why at
+      → (right : Recovery) → RefusedRightly lent snapshot log right → r ≡ right
   -- a refused reading leaves its lent tables all zero
   pub recover-zeros : (snapshot log rows active : List ℕ) (r : Recovery) (rows' active' : List ℕ) → RecoverMeets snapshot log rows active r rows' active'
       → 0 < recoveryNumber r → ZeroAfter rows rows' × ZeroAfter active active'
@@ -67,6 +71,10 @@ pub record Refused : Type 0 where
   pub host-delete-untouched : (sequence id : ℕ) (out after : List ℕ) → HostDeleteMeets sequence id out 0 after → after ≡ out
   -- the same of the C entries, which tell a refusal by a number that is not 0
   pub door-tells : (r : Recovery) → (storeSaid r .number ≡ recoveryNumber r) × (storeSaid r .at ≡ recoveryByte r)
+  -- and whose line for that number is the listing's
+  pub snapshot-text : (why : Refusal) (at : ℕ) → refusalText 0 (number why) at ≡ refusedLine (Stops.Snapshot why)
+  pub log-text : (why : Refusal) (at : ℕ) → refusalText 1 (number why) at ≡ refusedLine (Stops.Log why at)
+  pub file-text : (at : ℕ) → refusalText 2 (number FileUnreadable) at ≡ refusedLine Stops.File
   pub door-recover-zeros : (snapshot log rows active : List ℕ) (r : Store) (rows' active' : List ℕ) → DoorRecoverMeets snapshot log rows active r rows' active'
       → 0 < r .number → ZeroAfter rows rows' × ZeroAfter active active'
   pub door-read-zeros : (bytes rows active : List ℕ) (r : SnapshotSaid) (rows' active' : List ℕ) → DoorReadSnapshotMeets bytes rows active r rows' active'

@@ -8,6 +8,7 @@ use Rattle.refusal.specs.declared.Written.{Written}
 use Rattle.refusal.specs.Refusal.{numberTold, writtenTold}
 use Rattle.config.specs.declared.Config.{Config}
 use Rattle.layout.specs.declared.Extent.the-variants.{Full, Compacted}
+use Rattle.layout.specs.declared.Shape.{Shape}
 use Rattle.layout.specs.declared.Shape.the-variants.{Single, Batch}
 use Rattle.rows.specs.declared.Node.{Node}
 use Rattle.rows.specs.declared.Id.{Id}
@@ -16,12 +17,13 @@ use Rattle.sources.specs.declared.Shown.the-variants.{Caption, Vector}
 use Rattle.sources.specs.Sources.{bytesOf, startOf}
 use Rattle.meaning.specs.Snapshot.{readHeader}
 use Rattle.meaning.specs.Views.{lookup, view, given}
-use Rattle.meaning.specs.Calls.{readCall, readTables, writeCall, encodeCall, frameCall, outputAfter}
+use Rattle.meaning.specs.Calls.{readCall, readTables, writeCall, encodeCall, frameCall, operationCall, outputAfter}
 use Rattle.snapshot.specs.declared.ReadSnapshot.{ReadSnapshot}
 use Rattle.snapshot.specs.Told.{headerTold, readTold}
 use Rattle.views.specs.declared.Found.{Found}
 use Rattle.views.specs.Told.{foundTold, viewed}
-use Rattle.log.specs.Told.{frameTold}
+use Rattle.log.specs.declared.ReadFrame.{ReadFrame}
+use Rattle.log.specs.Told.{frameTold, operationTold}
 use Rattle.snapshot.proofs.read_header.Reads as ReadHeaderCall
 use Rattle.snapshot.proofs.read_snapshot.Reads as ReadSnapshotCall
 use Rattle.views.proofs.lookup.Reads as LookupCall
@@ -32,6 +34,7 @@ use Rattle.writer.proofs.write_compacted_snapshot.Reads as WriteCompactedCall
 use Rattle.encoder.proofs.encode_frame.Reads as EncodeFrameCall
 use Rattle.encoder.proofs.encode_batch.Reads as EncodeBatchCall
 use Rattle.log.proofs.frame_at.Reads as FrameAtCall
+use Rattle.log.proofs.operation_at.Reads as OperationAtCall
 use Rattle.views.proofs.view.Reads as ViewCall
 use Rattle.views.proofs.caption_view.Reads as CaptionViewCall
 use Rattle.views.proofs.vector_view.Reads as VectorViewCall
@@ -139,7 +142,14 @@ pub record EncoderCalls : Type 0 where
       → OneEach (EncodeBatchMeets config sequence operations coordinates captions out)
 
 -- ---- log
+-- frame_at(config, log, previous, at)
+pub record FrameAtMeets (config : Config) (log : List ℕ) (previous at : ℕ) (r : ReadFrame) : Type 0 where
+  pub result-is : r ≡ frameTold (frameCall config log previous at)
+
 pub record LogCalls : Type 0 where
-  -- frame_at(config, log, previous, at)
-  pub frame-at-one-answer : (κs : _) (config : Config) (log : RefT (List ℕ)) (previous at : ℕ)
-      → Gives (frameTold (frameCall config (now log) previous at)) (λ r. FrameAtCall.Learnt κs (config, (log, (previous, (at, tt)))) r (config, (log, (previous, (at, tt)))))
+  pub frame-at-contract : (κs : _) (config : Config) (log : RefT (List ℕ)) (previous at : ℕ) (r : ReadFrame)
+      → FrameAtCall.Learnt κs (config, (log, (previous, (at, tt)))) r (config, (log, (previous, (at, tt)))) → FrameAtMeets config (now log) previous at r
+  pub frame-at-one-answer : (config : Config) (log : List ℕ) (previous at : ℕ) → One (FrameAtMeets config log previous at)
+  -- operation_at(config, log, shape, end, at)
+  pub log-operation-at-one-answer : (κs : _) (config : Config) (log : RefT (List ℕ)) (shape : Shape) (end at : ℕ)
+      → Gives (operationTold (operationCall config (now log) shape end at)) (λ r. OperationAtCall.Learnt κs (config, (log, (shape, (end, (at, tt))))) r (config, (log, (shape, (end, (at, tt))))))

@@ -18,8 +18,8 @@ use Rattle.meaning.specs.Encoder.{asked, putCount, Tagged, encodeAll, batchCoun
 use Rattle.layout.specs.declared.Shape.{Shape}
 use Rattle.layout.specs.declared.Shape.the-variants.{Single, Batch}
 use Rattle.meaning.specs.Every.{Every}
-use Rattle.theorems.specs.FrameRows.{payloadOf, frameOf, frameIn, Follows, ReadBack}
-use Rattle.theorems.proofs.FrameBack.{CountHolds, payload-low, Framed, operations-from-log, frame-found, frame-seen, frame-bytes}
+use Rattle.theorems.specs.FrameRows.{payloadOf, frameOf, frameIn, CountHolds, Follows, ReadBack}
+use Rattle.theorems.proofs.FrameBack.{payload-low, Framed, operations-from-log, frame-found, frame-seen, frame-bytes}
 use Rattle.theorems.specs.Requested.{requested}
 use Rattle.theorems.proofs.Meant.{length-meant, asked-fit, all-encoded, meant-in-bytes}
 use borrow.Author.Tests.{ltb-false, eqb-true, eqb-false, not-false}

@@ -19,7 +19,7 @@ use Rattle.meaning.specs.Encoder.{taggedBytes, frameBytes}
 use Rattle.layout.specs.declared.Shape.{Shape}
 use Rattle.layout.specs.declared.Shape.the-variants.{Single, Batch}
 use Rattle.meaning.specs.Every.{Every}
-use Rattle.theorems.specs.FrameRows.{carryOperation, Puts, encodedOf, tagOf, fieldsOf, loggedAt, FromLog, loggedFrom, payloadOf, frameOf, operationRows, frameIn, Follows}
+use Rattle.theorems.specs.FrameRows.{carryOperation, Puts, encodedOf, tagOf, fieldsOf, loggedAt, FromLog, loggedFrom, payloadOf, frameOf, operationRows, frameIn, CountHolds, Follows}
 use Rattle.crc32.proofs.Bytes.{crc-lt}
 use Rattle.theorems.proofs.Here.{part-here, after-here, num-here, after-number, room-here}
 use Rattle.theorems.proofs.OperationBack.{byte-here, after-byte, Loggable, logged-from-log, fields-low, operation-back, operation-seen, tagged, all-from-log, tagged-low, operations-back, operations-seen}
@@ -61,11 +61,6 @@ frame-parts log at payload rest h small =
     }
 
 -- ---- a frame of operations
--- the operations that a frame of this shape holds
-abbrev pub CountHolds : Shape → ℕ → Type 0
-CountHolds Single n = n ≡ 1
-CountHolds Batch n = (1 ≤ n) × (n ≤ maxBatchOperations)
-
 -- a payload: opcode, sequence, body
 abbrev pub opcodeOf : Shape → List (Operation Record) → ℕ
 opcodeOf Single [] = 0

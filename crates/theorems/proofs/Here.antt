@@ -6,6 +6,7 @@ use native.Mathlib.Omega.{arith}
 use lib.ListN.{length, take, drop, length-append, length-drop}
 use lib.Seq.{take-at, drop-at, drop-drop}
 use Rattle.fields.specs.Fields.{part, num, le, bytes}
+use Rattle.fields.proofs.Parts.{part-split}
 use Rattle.fields.proofs.Numbers.{length-bytes, le-bytes}
 
 pub part-here : (s : List ℕ) (at n : ℕ) (a b : List ℕ) → drop at s ≡ a ++ b → length a ≡ n → part s at n ≡ a
@@ -24,3 +25,8 @@ pub room-here : (s : List ℕ) (at : ℕ) (a b : List ℕ) → drop at s ≡ a +
 room-here s at a b h k =
     let e : length s - at ≡ length a + length b = sym (length-drop at s) ∙ ap length h ∙ length-append a b in
     omega arith
+
+-- two parts of which one begins where the other ends
+pub parts-joined : (s : List ℕ) (a m b k t : ℕ) → b ≡ a + m → t ≡ m + k → part s a m ++ part s b k ≡ part s a t
+parts-joined s a m b k t p q =
+    ap (λ (x : ℕ). part s a m ++ part s x k) p ∙ sym (part-split s a m k) ∙ ap (part s a) (sym q)

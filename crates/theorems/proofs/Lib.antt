@@ -35,6 +35,8 @@ pub mod TakenOnce
 pub mod RefusedThere
 pub mod OperationBack
 pub mod FrameBack
+pub mod RawFrame
+pub mod RawLog
 pub mod Meant
 pub mod EncodeBack
 pub mod Appended
@@ -42,4 +44,5 @@ pub mod DeleteBytes
 pub mod DeleteRecovered
 pub mod WriterInWords
 pub mod SumsComputed
+pub mod StandardsMet
 pub mod Proved

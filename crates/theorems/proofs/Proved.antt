@@ -18,6 +18,8 @@ use Rattle.theorems.proofs.Written as Written
 use Rattle.theorems.proofs.FileBack as FileBack
 use Rattle.theorems.proofs.AtTheCut as AtTheCut
 use Rattle.theorems.proofs.RawFile as RawFile
+use Rattle.theorems.proofs.RawFrame as RawFrame
+use Rattle.theorems.proofs.RawLog as RawLog
 use Rattle.theorems.proofs.EncodeBack as EncodeBack
 use Rattle.theorems.proofs.Appended as Appended
 use Rattle.theorems.proofs.DeleteBytes as DeleteBytes
@@ -26,6 +28,7 @@ use Rattle.theorems.proofs.ReadAlike as ReadAlike
 use Rattle.theorems.proofs.RecoverAlike as RecoverAlike
 use Rattle.theorems.proofs.TablesAlike as TablesAlike
 use Rattle.theorems.proofs.SumsComputed as SumsComputed
+use Rattle.theorems.proofs.StandardsMet as StandardsMet
 
 pub frame-of : (shape : Shape) (c : Config) (sequence : ℕ) (words coords captions : List ℕ) (room : ℕ) (bs : List ℕ)
     → Every (λ x. x < 2 ^ 64) words → sequence < 256 ^ 8 → encode shape c sequence words coords captions room ≡ answer bs
@@ -74,6 +77,17 @@ theorems =
           };
       accepted-file = record { accepted-file = RawFile.accepted-file };
       frame-read-back = record { encode-back = frame-of; encode-bytes = EncodeBack.encode-bytes };
+      laid-out-logs =
+          record {
+            frame-is-its-layout = λ c snapshot log previous at f next b. RawFrame.frame-is-its-layout c snapshot log b previous at f next;
+            front-is-its-frames = λ c snapshot log fs gs end b. RawLog.front-is-its-frames c snapshot log b fs gs end;
+            up-to-a-tail = λ c snapshot log fs k b. RawLog.up-to-a-tail c snapshot log b fs k;
+            up-to-a-refusal = λ c snapshot log fs why k b. RawLog.up-to-a-refusal c snapshot log b fs why k;
+            log-is-its-frames = RawLog.log-is-its-frames;
+            refused-is-its-frames = RawLog.refused-is-its-frames;
+            layout-is-read = RawLog.layout-is-read;
+            layouts-are-read = RawLog.layouts-are-read;
+          };
       delete-appended =
           record {
             length-delete = DeleteBytes.length-delete;
@@ -94,4 +108,5 @@ theorems =
             rewritten = ReadAlike.rewritten;
           };
       sums = SumsComputed.sums;
+      standards = StandardsMet.standards;
     }

@@ -8,7 +8,7 @@ use lib.Dec.{eqb}
 use Rattle.crc32.specs.Crc.{crcOf}
 use Rattle.utf8.specs.Utf8.{isUtf8}
 use Rattle.fields.specs.Fields.{part, num, le, bytes, Bytes}
-use Rattle.fields.proofs.Parts.{length-part, part-all, part-split}
+use Rattle.fields.proofs.Parts.{length-part, part-all}
 use Rattle.fields.proofs.Numbers.{num-lt, bytes-num}
 use Rattle.config.specs.declared.Config.{Config}
 use Rattle.config.specs.declared.Metric.{Metric}
@@ -23,6 +23,7 @@ use Rattle.layout.specs.declared.Version.the-variants.{One, Two}
 use Rattle.meaning.specs.File.{flagOf, recordBytes, recordsBytes}
 use Rattle.config.proofs.Laws.{number-of-read}
 use Rattle.meaning.specs.Every.{Every}
+use Rattle.theorems.proofs.Here.{parts-joined}
 use Rattle.theorems.proofs.RecordBack.{all-shaped, records-seen}
 use Rattle.theorems.proofs.ItemBack.{Readable}
 use Rattle.theorems.specs.FileRows.{asRead}
@@ -33,11 +34,6 @@ use Rattle.theorems.proofs.HeaderBack.{version-of-read}
 use Rattle.theorems.proofs.FileBack.{records-here, snapshotOf, file-read}
 use Rattle.meaning.proofs.SnapshotRead.{RecordFacts, RecordRead, record-facts, PartsFacts, snapshotIn, snapshot-facts}
 use Rattle.refusal.proofs.Results.{answer-injective, passed}
-
--- two parts of which one begins where the other ends
-parts-joined : (s : List ℕ) (a m b k t : ℕ) → b ≡ a + m → t ≡ m + k → part s a m ++ part s b k ≡ part s a t
-parts-joined s a m b k t p q =
-    ap (λ (x : ℕ). part s a m ++ part s x k) p ∙ sym (part-split s a m k) ∙ ap (part s a) (sym q)
 
 -- ---- one record
 -- the record that stands at `at`, a deleted one with the caption that it has there

@@ -5,7 +5,7 @@ use Rattle.crc32.specs.Crc.{crcOf, bytesIn, bitsIn, bitIn}
 use Rattle.utf8.specs.Utf8.{isUtf8, validFront, frontIn, charLength}
 use Rattle.coordinates.specs.Coordinates.{vectorOf, patterns, everyFinite, everyZero}
 use Rattle.config.specs.Settings.{validate, inRange, metricOf, settings}
-use Rattle.fields.specs.Fields.{le}
+use Rattle.fields.specs.Fields.{le, bytes}
 use Rattle.rows.specs.Packed.{total, packed}
 use Rattle.rows.specs.Rows.{rowWord, rowValues}
 use Rattle.meaning.specs.Replay.{active, mark, size, applyPut, applyRemove, applyAll, replayFrame, step, run, replay, put, tail}
@@ -21,7 +21,9 @@ use mathlib.Core.Bool.{true, false}
 use mathlib.Core.List.{[], _∷_}
 use Rattle.config.specs.declared.Metric.the-variants.{SquaredL2}
 use Rattle.layout.specs.declared.Shape.the-variants.{Single}
+use Rattle.meaning.specs.Encoder.{taggedBytes, frameBytes}
 use Rattle.theorems.specs.Cut.{Cut}
+use Rattle.theorems.specs.LogLaidOut.{layoutsOf}
 
 unfoldable pub exampleCut : Cut 4096 exampleSnapshot exampleLog
 unfolding readSnapshot readParts readBody readHeader headerFor countedHeader itemAt captionAt coordinates recordAt recordsAt liveTwice framesOf framesFrom frameAt lengthAt payloadAt singleAt batchAt operationsAt operationAt replay run step replayFrame applyAll applyPut applyRemove active mark size crcOf bytesIn bitsIn bitIn le validate inRange metricOf vectorOf patterns everyFinite everyZero isUtf8 validFront frontIn charLength
@@ -39,7 +41,7 @@ exampleCut =
     }
 
 pub sums : Sums
-unfolding exampleCut recover readSnapshot readParts readBody readHeader headerFor countedHeader itemAt captionAt coordinates recordAt recordsAt liveTwice framesOf framesFrom frameAt lengthAt payloadAt singleAt batchAt operationsAt operationAt replay run step replayFrame applyAll applyPut applyRemove active mark size crcOf bytesIn bitsIn bitIn le validate inRange metricOf vectorOf patterns everyFinite everyZero isUtf8 validFront frontIn charLength total packed rowWord rowValues rowWords liveFrom insertNode sortedNodes liveCount
+unfolding exampleCut recover readSnapshot readParts readBody readHeader headerFor countedHeader itemAt captionAt coordinates recordAt recordsAt liveTwice framesOf framesFrom frameAt lengthAt payloadAt singleAt batchAt operationsAt operationAt replay run step replayFrame applyAll applyPut applyRemove active mark size crcOf bytesIn bitsIn bitIn le validate inRange metricOf vectorOf patterns everyFinite everyZero isUtf8 validFront frontIn charLength total packed rowWord rowValues rowWords liveFrom insertNode sortedNodes liveCount bytes taggedBytes frameBytes layoutsOf
 sums =
     record {
       p1 = refl;
@@ -67,7 +69,11 @@ sums =
       example-active = refl;
       example-told = refl;
       example-tables = refl;
+      example-laid-out = refl;
+      example-shown = refl;
       withdrawn = refl;
+      withdrawn-laid-out = refl;
+      withdrawn-shown = refl;
       example-cut = exampleCut;
       example-cut-place = refl;
     }

@@ -14,7 +14,7 @@ Consecutive n [] = Unit {0}
 Consecutive n (f ∷ fs) = (f .sequence ≡ n + 1) × Consecutive (f .sequence) fs
 
 -- the first sequence is any but 0, and each one more than the one before
-abbrev pub Numbered : List (Frame Row) → Type 0
+abbrev pub Numbered : {A : Type 0} → List (Frame A) → Type 0
 Numbered [] = Unit {0}
 Numbered (f ∷ fs) = (0 < f .sequence) × Consecutive (f .sequence) fs
 

@@ -1,10 +1,11 @@
 -- A frame of operations by value: its bytes, the rows that are read where it stands, and what they show.
-use Prim.Native.Nat.{ℕ, _+_, _<_}
+use Prim.Native.Nat.{ℕ, _+_, _≤_, _<_}
 use mathlib.Core.Path.{_≡_}
 use mathlib.Core.Bool.{true, false}
 use mathlib.Core.List.{List, [], _∷_, _++_, map}
 use lib.ListN.{length}
 use Rattle.fields.specs.Fields.{bytes}
+use Rattle.config.specs.Limits.{maxBatchOperations}
 use Rattle.config.specs.declared.Config.{Config}
 use Rattle.layout.specs.declared.Shape.{Shape}
 use Rattle.layout.specs.declared.Shape.the-variants.{Single, Batch}
@@ -51,6 +52,11 @@ operationRows Batch at os = loggedFrom (at + 21) os
 
 abbrev pub frameIn : Shape → ℕ → ℕ → List (Operation Record) → Frame Row
 frameIn shape sequence at os = record { start = at; sequence = sequence; shape = shape; operations = operationRows shape at os }
+
+-- how many operations a frame of this shape holds
+abbrev pub CountHolds : Shape → ℕ → Type 0
+CountHolds Single n = n ≡ 1
+CountHolds Batch n = (1 ≤ n) × (n ≤ maxBatchOperations)
 
 -- the frame before lets this one follow: it is the first, or one more
 abbrev pub Follows : ℕ → ℕ → Type 0

@@ -15,6 +15,8 @@ pub mod FrameReadBack
 pub mod DeleteAppended
 pub mod AnyFile
 pub mod AcceptedFile
+pub mod LogLaidOut
 pub mod DeletedCaptions
 pub mod Sums
+pub mod Standards
 pub mod Theorems

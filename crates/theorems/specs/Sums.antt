@@ -2,7 +2,7 @@
 use Prim.Native.Nat.{ℕ, _+_, _-_}
 use mathlib.Core.Path.{_≡_}
 use mathlib.Core.Bool.{true, false}
-use mathlib.Core.List.{List, [], _∷_}
+use mathlib.Core.List.{List, [], _∷_, _++_}
 use Rattle.crc32.specs.Crc.{crcOf}
 use Rattle.utf8.specs.Utf8.{isUtf8}
 use Rattle.config.specs.Settings.{settings}
@@ -10,13 +10,16 @@ use Rattle.config.specs.declared.Metric.the-variants.{SquaredL2}
 use Rattle.rows.specs.Rows.{rowWord}
 use Rattle.refusal.specs.Refusal.{answer, refused}
 use Rattle.refusal.specs.declared.Refusal.the-variants.{WrongLength, WrongCount, VectorAllZero, WrongSequence, GapAfterSnapshot}
-use Rattle.meaning.specs.Replay.{active, size}
+use Rattle.layout.specs.declared.Shape.the-variants.{Single, Batch}
+use Rattle.meaning.specs.Replay.{put, remove, Frame, active, size}
+use Rattle.meaning.specs.Records.{Record}
 use Rattle.meaning.specs.Snapshot.{readSnapshot}
-use Rattle.meaning.specs.Log.{lengthAt}
+use Rattle.meaning.specs.Log.{lengthAt, framesOf}
 use Rattle.meaning.specs.Recovery.{Recovered, recovered, refusedLog, recover, tailLength}
 use Rattle.meaning.specs.Calls.{recoveryTold, recoverTables}
 use Rattle.meaning.specs.Tables.{rowWords, activeNodes}
 use Rattle.theorems.specs.Cut.{Cut, place}
+use Rattle.theorems.specs.LogLaidOut.{layoutsOf, framesShown}
 
 -- ---- the stores
 
@@ -60,6 +63,25 @@ abbrev pub withdrawnLog : List ℕ
 withdrawnLog = 17 ∷ 0 ∷ 0 ∷ 0 ∷ 230 ∷ 239 ∷ 225 ∷ 201 ∷ 2 ∷ 3 ∷ 0 ∷ 0 ∷ 0 ∷ 0 ∷ 0 ∷ 0 ∷ 0 ∷ 9 ∷ 0 ∷ 0 ∷ 0 ∷ 0 ∷ 0 ∷ 0 ∷ 0 ∷ 163 ∷ 206 ∷ 84 ∷ 43 ∷ 51 ∷ 0 ∷ 0 ∷ 0 ∷ 83 ∷ 136 ∷ 218 ∷ 195 ∷ 3 ∷ 4 ∷ 0 ∷ 0 ∷ 0 ∷ 0 ∷ 0 ∷ 0 ∷ 0 ∷ 3 ∷ 0 ∷ 0 ∷ 0 ∷ 2 ∷ 7 ∷ 0 ∷ 0 ∷ 0 ∷ 0 ∷ 0 ∷ 0 ∷ 0 ∷ 1 ∷ 9 ∷ 0 ∷ 0 ∷ 0 ∷ 0 ∷ 0 ∷ 0 ∷ 0 ∷ 0 ∷ 0 ∷ 128 ∷ 64 ∷ 3 ∷ 0 ∷ 0 ∷ 0 ∷ 110 ∷ 101 ∷ 119 ∷ 2 ∷ 5 ∷ 0 ∷ 0 ∷ 0 ∷ 0 ∷ 0 ∷ 0 ∷ 0 ∷ 113 ∷ 243 ∷ 133 ∷ 59 ∷ 17 ∷ 0 ∷ 0 ∷ 0 ∷ 230 ∷ 239 ∷ 225 ∷ 201 ∷ 2 ∷ 5 ∷ 0 ∷ 0 ∷ 0 ∷ 0 ∷ 0 ∷ 0 ∷ 0 ∷ 9 ∷ 0 ∷ 0 ∷ 0 ∷ 0 ∷ 0 ∷ 0 ∷ 0 ∷ 71 ∷ 167 ∷ 197 ∷ 120 ∷ 17 ∷ 0 ∷ 0 ∷ []
 
 -- ---- what they come to
+-- the frames of the example and of the withdrawal by value: first byte, sequence, shape, operations
+abbrev pub exampleFrames : List (Frame Record)
+exampleFrames =
+    record { start = 0; sequence = 1; shape = Single; operations = put (record { id = 7; deleted = false; vector = 0 ∷ 0 ∷ 128 ∷ 63 ∷ []; caption = 72 ∷ 105 ∷ [] }) ∷ [] }
+    ∷ record { start = 39; sequence = 2; shape = Single; operations = put (record { id = 7; deleted = false; vector = 0 ∷ 0 ∷ 0 ∷ 64 ∷ []; caption = 72 ∷ 111 ∷ [] }) ∷ [] }
+    ∷ []
+
+abbrev pub withdrawnFrames : List (Frame Record)
+withdrawnFrames =
+    record { start = 0; sequence = 3; shape = Single; operations = remove 9 ∷ [] }
+    ∷ record {
+      start = 29;
+      sequence = 4;
+      shape = Batch;
+      operations = remove 7 ∷ put (record { id = 9; deleted = false; vector = 0 ∷ 0 ∷ 128 ∷ 64 ∷ []; caption = 110 ∷ 101 ∷ 119 ∷ [] }) ∷ remove 5 ∷ [];
+    }
+    ∷ record { start = 92; sequence = 5; shape = Single; operations = remove 9 ∷ [] }
+    ∷ []
+
 abbrev pub exampleRecovered : Recovered
 exampleRecovered = record { config = settings 1 16 200 42 SquaredL2; crc = 354460059; state = record { records = record { id = record { 0 = 7 }; deleted = true; «from_log» = true; «caption_length» = 0; at = 25 } ∷ record { id = record { 0 = 7 }; deleted = false; «from_log» = true; «caption_length» = 2; at = 64 } ∷ []; sequence = 2; replayed = 2; skipped = 0 }; keep = 78 }
 
@@ -91,8 +113,14 @@ pub record Sums : Type 0 where
   pub example-told : recoveryTold exampleLog exampleRecovered ≡ record { config = settings 1 16 200 42 SquaredL2; crc = 354460059; sequence = 2; records = 2; active = 1; replayed = 2; skipped = 0; keep = 78; tail = 3; size = 36 }
   -- with a row and an entry more than needed: zeros after
   pub example-tables : recoverTables (9 ∷ 9 ∷ 9 ∷ 9 ∷ 9 ∷ 9 ∷ 9 ∷ []) (9 ∷ 9 ∷ 9 ∷ []) (recovered exampleRecovered) ≡ record { rows = 7 ∷ (9223372036854775808 + 4611686018427387904 + 25) ∷ 7 ∷ 4611967493404098624 ∷ 0 ∷ 0 ∷ 0 ∷ []; active = 1 ∷ 0 ∷ 0 ∷ [] }
+  -- its log is its two puts laid out and the 3 stray bytes, and the rows that are read show these puts
+  pub example-laid-out : exampleLog ≡ layoutsOf exampleFrames ++ (1 ∷ 2 ∷ 3 ∷ [])
+  pub example-shown : framesShown (settings 1 16 200 42 SquaredL2) exampleSnapshot exampleLog (framesOf (settings 1 16 200 42 SquaredL2) exampleLog .frames) ≡ exampleFrames
   -- a still that is withdrawn stays withdrawn
   pub withdrawn : recover 4096 withdrawnSnapshot withdrawnLog ≡ recovered (record { config = settings 1 16 200 42 SquaredL2; crc = 1858255164; state = record { records = record { id = record { 0 = 7 }; deleted = true; «from_log» = false; «caption_length» = 0; at = 61 } ∷ record { id = record { 0 = 8 }; deleted = true; «from_log» = false; «caption_length» = 0; at = 84 } ∷ record { id = record { 0 = 9 }; deleted = true; «from_log» = false; «caption_length» = 0; at = 104 } ∷ record { id = record { 0 = 9 }; deleted = true; «from_log» = true; «caption_length» = 0; at = 68 } ∷ []; sequence = 5; replayed = 2; skipped = 1 }; keep = 121 })
+  -- the same with deletes and a batch
+  pub withdrawn-laid-out : withdrawnLog ≡ layoutsOf withdrawnFrames ++ (17 ∷ 0 ∷ 0 ∷ [])
+  pub withdrawn-shown : framesShown (settings 1 16 200 42 SquaredL2) withdrawnSnapshot withdrawnLog (framesOf (settings 1 16 200 42 SquaredL2) withdrawnLog .frames) ≡ withdrawnFrames
   -- demand 3 has a cut of it, after its first frame: its premises are met by real bytes
   pub example-cut : Cut 4096 exampleSnapshot exampleLog
   pub example-cut-place : place example-cut ≡ 39

@@ -7,9 +7,11 @@ use Rattle.theorems.specs.WriterTakes.{WriterTakes}
 use Rattle.theorems.specs.FileReadBack.{FileReadBack}
 use Rattle.theorems.specs.AcceptedFile.{AcceptedFile}
 use Rattle.theorems.specs.FrameReadBack.{FrameReadBack}
+use Rattle.theorems.specs.LogLaidOut.{LaidOutLogs}
 use Rattle.theorems.specs.DeleteAppended.{DeleteAppended}
 use Rattle.theorems.specs.DeletedCaptions.{DeletedCaptions}
 use Rattle.theorems.specs.Sums.{Sums}
+use Rattle.theorems.specs.Standards.{Standards}
 
 pub record Theorems : Type 0 where
   pub demand3 : Demand3
@@ -20,6 +22,8 @@ pub record Theorems : Type 0 where
   pub file-read-back : FileReadBack
   pub accepted-file : AcceptedFile
   pub frame-read-back : FrameReadBack
+  pub laid-out-logs : LaidOutLogs
   pub delete-appended : DeleteAppended
   pub deleted-captions : DeletedCaptions
   pub sums : Sums
+  pub standards : Standards
