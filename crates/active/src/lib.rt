@@ -1,5 +1,7 @@
 // The active nodes: the live nodes of a table's first rows, by rising ID, with zeros behind the rows and behind the entries.
 // Definitions: `meaning`'s specs/Tables.antt; specs/Active.antt says what the lent tables hold after.
+#![tactic(auto)]
+
 ghost use Rattle.std.specs.Prelude.{◌≡◌, true, ◌++◌, ◌*◌, ◌≤◌, length, take, drop, replicate};
 ghost use Rattle.config.specs.Limits.{max_records};
 ghost use Rattle.refusal.specs.Refusal.{measured};

@@ -4,6 +4,8 @@
 // The calls are answered by the crates answers_*, one for each part of the store, so that a new call proves none of the others
 // anew. Each has a function `lines`, which is handed a request that is no bad request, and lent memory of the length that the
 // request has, filled; it writes the lines of the answer but the last, and gives the cursor behind them.
+#![tactic(auto)]
+
 ghost use Rattle.std.specs.Prelude.{◌≤◌, length};
 
 use exchange::request::Asked;

@@ -1,4 +1,6 @@
 // The answers of docs/QUESTIONS.md to calls that read a graph cache: 19, 20. A tool for tests: proved to be safe and to end.
+#![tactic(auto)]
+
 pub mod nodes;
 
 use exchange::text::Cursor;

@@ -1,4 +1,6 @@
 // The answers of docs/QUESTIONS.md to calls over the leaves: 1 to 6. A tool for tests: proved to be safe and to end.
+#![tactic(auto)]
+
 use config::Config;
 use coordinates::check_coordinates;
 use exchange::text::Cursor;

@@ -1,4 +1,6 @@
 // The answers of docs/QUESTIONS.md to calls that recover a store: 8, 14, 15. A tool for tests: proved to be safe and to end.
+#![tactic(auto)]
+
 use answers_store::records;
 use exchange::text::Cursor;
 use exchange::{atoms, request, text};

@@ -1,4 +1,6 @@
 // The answers of docs/QUESTIONS.md to calls that read a store: 7, 16, 17, 18. A tool for tests: proved to be safe and to end.
+#![tactic(auto)]
+
 pub mod records;
 
 use exchange::text::Cursor;

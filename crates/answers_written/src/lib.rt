@@ -1,5 +1,7 @@
 // The answers of docs/QUESTIONS.md to calls that write frames and snapshots, 10 to 13, and to the C entries, 21 to 23. A tool for
 // tests: proved to be safe and to end.
+#![tactic(auto)]
+
 use exchange::text::Cursor;
 use exchange::{atoms, request, text};
 use refusal::Written;

@@ -1,5 +1,7 @@
 // The settings of a store, and the limits of document 01: the one place in the code that spells a limit.
 // Definitions: specs/Limits.antt, specs/Settings.antt.
+#![tactic(auto)]
+
 ghost use Rattle.std.specs.Prelude.{◌≡◌};
 ghost use Rattle.refusal.specs.Refusal.{checked};
 ghost use Rattle.config.specs.Settings.{defaults, with_m, with_ef, with_seed, with_metric, in_range, validate as validateOf, metric_of, metric_told, metric_number, is_cosine, caption_limit};
@@ -7,7 +9,7 @@ ghost use Rattle.config.specs.Settings.{defaults, with_m, with_ef, with_seed, wi
 use refusal::{Checked, Refusal};
 
 // The number in the file is `Metric::number`.
-#[derive(Drop)]
+#[derive(Clone, Copy)]
 pub enum Metric {
     SquaredL2,
     Cosine,
@@ -15,7 +17,7 @@ pub enum Metric {
 }
 
 // What a metric's number in a file is read as.
-#[derive(Drop)]
+#[derive(Clone, Copy)]
 pub enum ReadMetric {
     Known(Metric),
     Refused(Refusal),
@@ -54,7 +56,7 @@ impl Metric {
     }
 }
 
-#[derive(Drop)]
+#[derive(Clone, Copy)]
 pub struct Config {
     pub dimensions: usize,
     pub m: usize,

@@ -1,4 +1,6 @@
 // Writes what the settings, the packed words and the generator give at their edges; `stdout` was worked out apart from this code.
+#![tactic(auto)]
+
 use config::{Config, Metric, ReadMetric};
 use libc::STDOUT_FILENO;
 use refusal::Checked;

@@ -1,5 +1,7 @@
 // The test of a vector's coordinates, by their bits alone: no coordinate enters a float operation.
 // The definitions are in specs/Coordinates.antt.
+#![tactic(auto)]
+
 ghost use Rattle.std.specs.Prelude.{◌≡◌, ◌+◌, ◌*◌, ◌≤◌, max, length};
 ghost use Rattle.fields.specs.Fields.{part};
 ghost use Rattle.refusal.specs.Refusal.{checked};

@@ -1,5 +1,7 @@
 // The CRC-32 of IEEE 802.3, proved equal to its bit-serial definition, crc_of of specs/Crc.antt.
 // `crc32` and `part` make what they need for one call; a caller with many short runs makes `tables` once and lends them.
+#![tactic(auto)]
+
 ghost use Rattle.std.specs.Prelude.{◌≡◌};
 ghost use Rattle.std.specs.Int.Bits.{bit_xor};
 ghost use Rattle.crc32.specs.Crc.{all_ones, bytes_in, crc_of};

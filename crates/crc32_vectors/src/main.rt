@@ -1,6 +1,8 @@
 // Published CRC-32 vectors, and runs of every length at which the way of computing changes, each by `crc32`, by
 // `crc32_with`, and by `update` over two parts. A line has the length and the three answers in hexadecimal. expected.py makes `stdout`
 // with the CRC of Python's zlib.
+#![tactic(auto)]
+
 ghost use Rattle.crc32.specs.Steps.{Rows};
 
 use libc::STDOUT_FILENO;

@@ -1,6 +1,8 @@
 // A long run of bytes made 2400 bytes that leave the register the same, at several bytes a cycle and with no table:
 // every byte is xored into four places of the run behind it, whence it need not be looked at again.
 // It serves any register that is a `Register` of specs/Elimination.antt; that the CRC's is one is proved in `crc32`.
+#![tactic(auto)]
+
 ghost use Rattle.std.specs.Prelude.{◌≡◌, ◌∷◌, ℕ, ◌+◌, ◌-◌, ◌≤◌, length, take, drop, replicate};
 ghost use Rattle.elimination.specs.Elimination.{Started, Passed, Keeps, Clear, Last, Alike};
 

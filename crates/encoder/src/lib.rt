@@ -2,6 +2,8 @@
 // is written into the rest of the lent output. The definitions are those of `meaning`, whose parts are the code's;
 // specs/Requests.antt says what an operation is written as.
 // Coordinates come as the bits of their f32: a NaN that is made an f32 need not keep its bits.
+#![tactic(auto)]
+
 ghost use Rattle.std.specs.Prelude.{◌≡◌, true, ◌∷◌, suc, ◌+◌, ◌*◌, ◌/◌, ◌≤◌, length};
 ghost use Rattle.coordinates.specs.Coordinates.{coordinate_bytes};
 ghost use Rattle.config.specs.Limits.{max_dimensions, max_metadata, max_batch_operations};

@@ -59,7 +59,7 @@ fn digit(call: u8, what: u64) -> u8 {
     (shape(call) / what % 16) as u8
 }
 
-#[derive(Drop)]
+#[derive(Clone, Copy)]
 pub enum Asked {
     Call(u8),
     Bad,
@@ -201,7 +201,7 @@ fn numbers_of(request: &[u8]) -> Config {
 }
 
 // Where the next field is, or a field that runs past the end.
-#[derive(Drop)]
+#[derive(Clone, Copy)]
 enum Place {
     At(usize),
     Past,

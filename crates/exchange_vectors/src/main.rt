@@ -1,5 +1,7 @@
 // The atoms of an answer at the lengths at which their form changes, over memory prepared as for a call. expected.py makes
 // `stdout` with the CRC of Python's zlib.
+#![tactic(auto)]
+
 use exchange::text::Cursor;
 use exchange::{atoms, lend, text};
 use libc::STDOUT_FILENO;

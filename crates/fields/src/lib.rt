@@ -1,23 +1,25 @@
 // Little-endian numbers read from bytes and written into lent memory. The definitions are in specs/Fields.antt.
 // A reader takes a slice and a cursor by value, and answers the number and the cursor behind it, or that it runs past the end.
+#![tactic(auto)]
+
 ghost use Rattle.std.specs.Prelude.{◌≡◌, ◌++◌, ◌+◌, ◌≤◌, ◌<◌, length, take, drop, replicate};
 ghost use Rattle.fields.specs.Placed.{placed};
 ghost use Rattle.fields.specs.Fields.{num, bytes, field8, field32, field64};
 
 // What a reader finds: the number and the cursor behind it, or a field that runs past the end.
-#[derive(Drop)]
+#[derive(Clone, Copy)]
 pub enum Field8 {
     Value(u8, usize),
     Past,
 }
 
-#[derive(Drop)]
+#[derive(Clone, Copy)]
 pub enum Field32 {
     Value(u32, usize),
     Past,
 }
 
-#[derive(Drop)]
+#[derive(Clone, Copy)]
 pub enum Field64 {
     Value(u64, usize),
     Past,

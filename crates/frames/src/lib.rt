@@ -1,6 +1,8 @@
 // What every frame of a log has, written and read: an opcode and a sequence at its payload's front, and the envelope around the
 // payload, which is its length, the CRC of those 4 bytes, and behind it its CRC. The definitions are those of `meaning`;
 // specs/Envelope.antt says which envelope stands at a byte of the log.
+#![tactic(auto)]
+
 ghost use Rattle.std.specs.Prelude.{◌≡◌, ◌∷◌, ◌++◌, ◌+◌, ◌≤◌, length};
 ghost use Rattle.crc32.specs.Steps.{Rows};
 ghost use Rattle.config.specs.Limits.{max_frame};
@@ -48,7 +50,7 @@ pub fn seal(out: &mut [u8], n: usize)
 }
 
 // What stands at a byte of the log: too little for a frame, a payload of so many bytes that is all there with its CRC, or a refusal.
-#[derive(Drop)]
+#[derive(Clone, Copy)]
 pub enum Envelope {
     TooLittle,
     Payload(usize),

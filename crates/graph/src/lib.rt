@@ -1,6 +1,8 @@
 // The graph cache, read: believed only where it belongs to the snapshot beside it. And one level's neighbours, as a part of it.
 // Definitions: specs/Graph.antt for what is asked of a graph, specs/Layout.antt for its bytes, specs/Cache.antt for reading,
 // specs/Neighbours.antt for the view; specs/Told.antt says how an answer tells them.
+#![tactic(auto)]
+
 ghost use Rattle.std.specs.Prelude.{◌≡◌, [], ◌++◌, ℕ, ◌+◌, ◌*◌, ◌-◌, ◌≤◌, ◌<◌, ltb, length, get_or, take, drop, replicate};
 ghost use Rattle.fields.specs.Fields.{num};
 ghost use Rattle.config.specs.Limits.{min_cache_bytes, max_records, max_m};
@@ -18,52 +20,52 @@ use refusal::{Checked, Refusal};
 use rows::Node;
 
 // Where a search begins.
-#[derive(Drop)]
+#[derive(Clone, Copy)]
 pub enum Entry {
     Node(Node),
     None,
 }
 
-#[derive(Drop)]
+#[derive(Clone, Copy)]
 enum ReadEntry {
     Read(Entry),
     Refused(Refusal),
 }
 
-#[derive(Drop)]
+#[derive(Clone, Copy)]
 pub struct CacheHeader {
     pub entry: Entry,
     pub rng_state: u64,
 }
 
-#[derive(Drop)]
+#[derive(Clone, Copy)]
 enum ReadCacheHeader {
     Read(CacheHeader),
     Refused(Refusal),
 }
 
 // Where what follows begins.
-#[derive(Drop)]
+#[derive(Clone, Copy)]
 enum ReadNext {
     Next(usize),
     Refused(Refusal),
 }
 
-#[derive(Drop)]
+#[derive(Clone, Copy)]
 pub struct CacheInfo {
     pub nodes: usize,
     pub entry: Entry,
     pub rng_state: u64,
 }
 
-#[derive(Drop)]
+#[derive(Clone, Copy)]
 pub enum ReadCache {
     Accepted(CacheInfo),
     Refused(Refusal),
 }
 
 // A part of the cache: its first byte, its length.
-#[derive(Drop)]
+#[derive(Clone, Copy)]
 pub enum ShownLevel {
     Part(usize, usize),
     Refused(Refusal),

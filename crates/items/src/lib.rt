@@ -1,4 +1,6 @@
 // A record's coordinates and caption, as a snapshot and a log have them. The definitions are those of `meaning`, specs/Item.antt.
+#![tactic(auto)]
+
 ghost use Rattle.std.specs.Prelude.{◌≡◌, ◌≤◌, length};
 ghost use Rattle.refusal.specs.Refusal.{measured};
 ghost use Rattle.config.specs.Limits.{max_dimensions};

@@ -2,6 +2,8 @@
 // A C caller is checked by nothing, so no call has a `requires`. An answer is document 01's number, 0 where nothing is refused, and
 // values: specs/Said.antt has both for each case of the answers of the proved calls. Settings are handed over as their numbers:
 // specs/Asked.antt. host/ has the C declarations; a result of more than 16 bytes is there a pointer that is passed first.
+#![tactic(auto)]
+
 ghost use Rattle.std.specs.Prelude.{◌≡◌, ◌+◌, ◌≤◌, length};
 ghost use Rattle.std.specs.Int.Bits.{bit_xor};
 ghost use Rattle.crc32.specs.Crc.{all_ones, bytes_in, crc_of};
@@ -35,19 +37,19 @@ use sources::Shown;
 use views::{Found, Viewed};
 
 // The settings that five numbers stand for.
-#[derive(Drop)]
+#[derive(Clone, Copy)]
 enum ReadSettings {
     Known(Config),
     Refused(Refusal),
 }
 
 // What a caller asks of a writer or an encoder in numbers: d, M, ef, the seed, the metric and the sequence.
-#[derive(Drop)]
+#[derive(Clone, Copy)]
 struct Asked(usize, usize, usize, u64, u32, u64);
 
 // A snapshot that was read.
 #[repr(C)]
-#[derive(Drop)]
+#[derive(Clone, Copy)]
 pub struct Snapshot {
     pub number: u32,
     pub crc: u32,
@@ -64,7 +66,7 @@ pub struct Snapshot {
 
 // A store that was recovered. A refusal comes from the snapshot, `source` 0, or from the log, 1, at the byte `at`.
 #[repr(C)]
-#[derive(Drop)]
+#[derive(Clone, Copy)]
 pub struct Store {
     pub number: u32,
     pub source: u32,
@@ -87,7 +89,7 @@ pub struct Store {
 
 // A frame of a log; `kind` is 1 for a single frame, 2 for a batch, and 0 where there is none.
 #[repr(C)]
-#[derive(Drop)]
+#[derive(Clone, Copy)]
 pub struct Frame {
     pub number: u32,
     pub kind: u32,
@@ -101,7 +103,7 @@ pub struct Frame {
 
 // An operation of a frame: `tag` is 1 for a put, 2 for a delete, and the places are bytes of the log.
 #[repr(C)]
-#[derive(Drop)]
+#[derive(Clone, Copy)]
 pub struct Operation {
     pub number: u32,
     pub tag: u32,
@@ -114,7 +116,7 @@ pub struct Operation {
 
 // The lowest live node of an ID; `NO_NODE` where there is none.
 #[repr(C)]
-#[derive(Drop)]
+#[derive(Clone, Copy)]
 pub struct Lookup {
     pub number: u32,
     pub node: u32,
@@ -122,7 +124,7 @@ pub struct Lookup {
 
 // `length` bytes from `at` of the snapshot, 0, or of the log, 1.
 #[repr(C)]
-#[derive(Drop)]
+#[derive(Clone, Copy)]
 pub struct Part {
     pub number: u32,
     pub source: u32,
@@ -132,7 +134,7 @@ pub struct Part {
 
 // A cache that was read; its entry is `NO_NODE` where it has none.
 #[repr(C)]
-#[derive(Drop)]
+#[derive(Clone, Copy)]
 pub struct Cache {
     pub number: u32,
     pub entry: u32,
@@ -142,7 +144,7 @@ pub struct Cache {
 
 // `length` bytes from `at` of the cache, 4 for each neighbour.
 #[repr(C)]
-#[derive(Drop)]
+#[derive(Clone, Copy)]
 pub struct Neighbours {
     pub number: u32,
     pub at: usize,
@@ -151,7 +153,7 @@ pub struct Neighbours {
 
 // How many bytes stand at the front of the output.
 #[repr(C)]
-#[derive(Drop)]
+#[derive(Clone, Copy)]
 pub struct Bytes {
     pub number: u32,
     pub length: usize,

@@ -1,25 +1,27 @@
 // The layouts of document 01 as numbers: where a snapshot's and a frame's parts stand and how long they are. Nothing else spells them.
 // Definitions: specs/Layout.antt.
+#![tactic(auto)]
+
 ghost use Rattle.std.specs.Prelude.{◌≡◌, ◌≤◌, ◌<◌};
 ghost use Rattle.config.specs.Limits.{max_dimensions};
 ghost use Rattle.layout.specs.Layout.{metric_length, header_length, item_length, record_length, caption_offset};
 
 // A snapshot's version.
-#[derive(Drop)]
+#[derive(Clone, Copy)]
 pub enum Version {
     One,
     Two,
 }
 
 // What a written snapshot has: every record, or the live ones.
-#[derive(Drop)]
+#[derive(Clone, Copy)]
 pub enum Extent {
     Full,
     Compacted,
 }
 
 // What a frame's payload is: one operation, or a batch.
-#[derive(Drop)]
+#[derive(Clone, Copy)]
 pub enum Shape {
     Single,
     Batch,

@@ -6,6 +6,8 @@
 // the packed word, which a row with an offset below 2^30 does not use.
 //
 // Definitions: specs/Links.antt.
+#![tactic(auto)]
+
 ghost use Rattle.std.specs.Prelude.{◌*◌, ◌/◌, ◌<◌, ◌≤◌, ◌≡◌, length};
 ghost use Rattle.links.specs.Links.{links, plain_word, left_of, right_of, word_with_left, entry_with_left, entry_with_right, link_in, deleted_word, caption_length, Linked, Attached};
 

@@ -5,6 +5,8 @@
 // files (crate listing_theorems, specs/ListingFiles). And they say, as far as the kit lets them, that each line is the right one
 // (specs/Shown): a file is read to its own half of the room, and a line is shown only as the call over the recovery of these two files
 // made it. What a read finds and what a write leaves no contract says.
+#![tactic(auto)]
+
 ghost use Rattle.std.specs.Prelude.{◌≡◌, ◌+◌, ◌*◌, ◌≤◌, length};
 ghost use Rattle.recovery.specs.declared.Recovery.TheVariants.{Recovered};
 ghost use Rattle.listing_text.specs.Files.{listing_file_limit, listing_rows, longest_line};
@@ -22,7 +24,7 @@ const FILE_LIMIT: usize = 65536;
 
 // A file as it was found: the byte of the room that it stands from on, and its length; more than FILE_LIMIT, if it cannot be opened or
 // read or does not fit.
-#[derive(Drop)]
+#[derive(Clone, Copy)]
 struct Found {
     at: usize,
     bytes: usize,

@@ -2,6 +2,8 @@
 // the line of one node.
 // Each call answers how many bytes it wrote at the front of its output, or refuses by number and changes no byte: nothing is
 // written before the line's length is known to fit. The definitions are in specs/: Decimal, Lines, and Listing for the calls.
+#![tactic(auto)]
+
 ghost use Rattle.std.specs.Prelude.{◌≡◌, ◌++◌, cond, eqb, ◌+◌, ◌≤◌, length};
 ghost use Rattle.refusal.specs.Refusal.{written_told};
 ghost use Rattle.refusal.specs.declared.Refusal.TheVariants.{WrongDimensions, NoSuchNode, RowDoesNotFit};
@@ -16,7 +18,7 @@ use refusal::{Refusal, Written};
 use rows::{Node, Row};
 
 // What the first line tells.
-#[derive(Drop)]
+#[derive(Clone, Copy)]
 pub struct Heading {
     pub sequence: u64,
     pub records: usize,
@@ -28,7 +30,7 @@ pub struct Heading {
 }
 
 // What was refused: the snapshot; the log, with the byte; or a file that cannot be opened or read, or is too long.
-#[derive(Drop)]
+#[derive(Clone, Copy)]
 pub enum Stopped {
     Snapshot(Refusal),
     Log(Refusal, usize),

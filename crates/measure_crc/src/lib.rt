@@ -1,4 +1,6 @@
 // The CRC behind C names, for bench/ to time.
+#![tactic(auto)]
+
 ghost use Rattle.std.specs.Prelude.{◌≡◌, ◌<◌};
 ghost use Rattle.crc32.specs.Crc.{all_ones, bytes_in, crc_of};
 ghost use Rattle.crc32.specs.Steps.{Rows};

@@ -1,4 +1,6 @@
 // The encoders behind C names, for bench/ to time, with the settings that `Config::new` gives.
+#![tactic(auto)]
+
 use config::Config;
 use refusal::Written;
 

@@ -1,11 +1,13 @@
 // The cache's reading and its view behind C names, for bench/ to time and to compare.
+#![tactic(auto)]
+
 use config::{Config, Metric};
 use graph::{Entry, ReadCache};
 use rows::Node;
 
 // `refused` is 0, or the refusal, and then the rest is 0. No entry is all ones.
 #[repr(C)]
-#[derive(Drop)]
+#[derive(Clone, Copy)]
 pub struct Told {
     pub refused: u64,
     pub nodes: u64,

@@ -1,10 +1,12 @@
 // Recovery behind a C name, for bench/ to time.
+#![tactic(auto)]
+
 use recovery::Recovery;
 use refusal::Refusal;
 
 // `refused` is 0, or the refusal, and then the rest is 0.
 #[repr(C)]
-#[derive(Drop)]
+#[derive(Clone, Copy)]
 pub struct Told {
     pub refused: u64,
     pub sequence: u64,

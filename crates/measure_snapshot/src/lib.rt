@@ -1,11 +1,13 @@
 // The snapshot's reading and writing behind C names, for bench/ to time.
+#![tactic(auto)]
+
 use config::Config;
 use refusal::Written;
 use snapshot::ReadSnapshot;
 
 // `refused` is 0, or the refusal, and then the rest is 0.
 #[repr(C)]
-#[derive(Drop)]
+#[derive(Clone, Copy)]
 pub struct Told {
     pub refused: u64,
     pub sequence: u64,

@@ -1,4 +1,6 @@
 // Entries for the benchmark under bench/: a slice is passed as pointer and length. Nothing else uses them.
+#![tactic(auto)]
+
 ghost use Rattle.std.specs.Prelude.{◌≡◌};
 ghost use Rattle.utf8.specs.Utf8.{is_utf8, valid_front};
 

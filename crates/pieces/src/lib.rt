@@ -1,11 +1,13 @@
 // The CRC of a file that is read or written from front to back, taken along in pieces while their bytes are in the cache:
 // a pass for the CRC alone would have them come from memory once more. The definition of a sum is in specs/Sums.antt.
+#![tactic(auto)]
+
 ghost use Rattle.std.specs.Prelude.{◌≡◌, List, ℕ, ◌+◌, ◌≤◌, length, take};
 ghost use Rattle.crc32.specs.Crc.{crc_of};
 ghost use Rattle.pieces.specs.Sums.{Sums, piece_length};
 
 // The register when the first `upto` bytes have gone in.
-#[derive(Drop)]
+#[derive(Clone, Copy)]
 pub struct Sum {
     pub register: u32,
     pub upto: usize,

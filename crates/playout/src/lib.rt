@@ -1,5 +1,7 @@
 // The three calls of the playout host, which is C: host/playout.h has their C declarations. A C caller is checked by nothing,
 // so no call has a `requires`.
+#![tactic(auto)]
+
 ghost use Rattle.std.specs.Prelude.{◌≡◌};
 ghost use Rattle.crc32.specs.Crc.{crc_of};
 ghost use Rattle.utf8.specs.Utf8.{is_utf8};

@@ -1,8 +1,10 @@
 // Answers the requests of standard input on standard output until the input ends. The format, and what may be asked here, is
 // in docs/QUESTIONS.md; what is more is answered by `too large`, and ends the run, as does a request that is cut short.
+#![tactic(auto)]
+
 use libc::{STDIN_FILENO, STDOUT_FILENO};
 
-#[derive(Drop)]
+#[derive(Clone, Copy)]
 enum Length {
     Bytes(usize),
     End,

@@ -4,6 +4,8 @@
 // they are decoded in full and counted. Where nothing follows them that could be a later frame, the tables stay as the snapshot's
 // reading left them; otherwise the tree of `tree` is made over the rows, what follows is replayed, and the tree is taken out again.
 // The definitions are those of `meaning` (Recovery, Calls); specs/Told.antt says how an answer tells them.
+#![tactic(auto)]
+
 ghost use Rattle.std.specs.Prelude.{◌≡◌, cond, false, List, ◌+◌, ◌*◌, ◌≤◌, ltb, leb, length};
 ghost use Rattle.crc32.specs.Steps.{Rows};
 ghost use Rattle.config.specs.Limits.{max_dimensions, max_log_bytes};
@@ -27,7 +29,7 @@ use replay::{Applied, Table};
 use snapshot::{ReadSnapshot, SnapshotInfo};
 
 // `keep` is the first byte of the tail, `tail` its length, `size` the encoded size of all records.
-#[derive(Drop)]
+#[derive(Clone, Copy)]
 pub struct RecoveryInfo {
     pub config: Config,
     pub crc: u32,
@@ -42,7 +44,7 @@ pub struct RecoveryInfo {
 }
 
 // A refusal in the log names its frame's first byte.
-#[derive(Drop)]
+#[derive(Clone, Copy)]
 pub enum Recovery {
     Recovered(RecoveryInfo),
     RefusedSnapshot(Refusal),
@@ -50,7 +52,7 @@ pub enum Recovery {
 }
 
 // A byte of the log, the sequence of the frame before it or 0 where there is none, and how many frames were skipped before it.
-#[derive(Drop)]
+#[derive(Clone, Copy)]
 struct Place {
     previous: u64,
     at: usize,
@@ -58,7 +60,7 @@ struct Place {
 }
 
 // What the front of the log comes to: a frame may follow the snapshot's; or a tail is reached, with how many frames before it.
-#[derive(Drop)]
+#[derive(Clone, Copy)]
 enum Skipped {
     More(Place),
     Ended(usize, usize),
@@ -66,7 +68,7 @@ enum Skipped {
 }
 
 // `keep` is the first byte of the tail.
-#[derive(Drop)]
+#[derive(Clone, Copy)]
 struct Reached {
     table: Table,
     sequence: u64,
@@ -75,7 +77,7 @@ struct Reached {
     keep: usize,
 }
 
-#[derive(Drop)]
+#[derive(Clone, Copy)]
 enum Replayed {
     Reached(Reached),
     Refused(Refusal, usize),

@@ -1,9 +1,11 @@
 // Why something is refused: one case for each number of document 01's "Numbers of refusal", in its order.
 // Definitions: specs/Refusal.antt.
+#![tactic(auto)]
+
 ghost use Rattle.std.specs.Prelude.{◌≡◌};
 ghost use Rattle.refusal.specs.Refusal.{number as number_of};
 
-#[derive(Drop)]
+#[derive(Clone, Copy)]
 pub enum Refusal {
     LengthOutOfBounds,
     WrongMagic,
@@ -112,21 +114,21 @@ impl Refusal {
 }
 
 // What a call answers that only tests.
-#[derive(Drop)]
+#[derive(Clone, Copy)]
 pub enum Checked {
     Passed,
     Refused(Refusal),
 }
 
 // What a call answers that measures: a length.
-#[derive(Drop)]
+#[derive(Clone, Copy)]
 pub enum Measured {
     Length(usize),
     Refused(Refusal),
 }
 
 // What a writer answers: how many bytes stand at the front of its output.
-#[derive(Drop)]
+#[derive(Clone, Copy)]
 pub enum Written {
     Bytes(usize),
     Refused(Refusal),

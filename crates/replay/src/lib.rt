@@ -1,5 +1,7 @@
 // Replay: what the operations of a log's frames do to the rows in lent memory.
 // The definitions are those of `meaning` (Replay); specs/Stands.antt says how rows stand in memory while replay runs.
+#![tactic(auto)]
+
 ghost use Rattle.std.specs.Prelude.{◌≡◌, List, ◌+◌, ◌*◌, ◌≤◌, ◌<◌, length};
 ghost use Rattle.config.specs.Limits.{max_records, max_dimensions, max_log_bytes};
 ghost use Rattle.layout.specs.declared.Shape.TheVariants.{Batch};
@@ -25,14 +27,14 @@ use rows::{Id, Row};
 use tree::Tree;
 
 // What replay keeps of the rows beside lent memory: the tree that finds them, and their encoded size.
-#[derive(Drop)]
+#[derive(Clone, Copy)]
 pub struct Table {
     pub tree: Tree,
     pub size: usize,
 }
 
 // The live row of an ID, marked: its link, or 0 where there was none; the cell of the tree where a row of the ID belongs; the size left.
-#[derive(Drop)]
+#[derive(Clone, Copy)]
 struct Outed {
     link: usize,
     cell: usize,
@@ -40,7 +42,7 @@ struct Outed {
 }
 
 // What an operation leaves.
-#[derive(Drop)]
+#[derive(Clone, Copy)]
 pub enum Applied {
     Went(Table),
     Refused(Refusal),

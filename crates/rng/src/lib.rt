@@ -1,5 +1,7 @@
 // The state of the level generator, as the graph cache stores it.
 // Definition: specs/Rng.antt.
+#![tactic(auto)]
+
 ghost use Rattle.std.specs.Prelude.{◌≡◌, ◌*◌, ◌%◌, ◌^◌};
 ghost use Rattle.rng.specs.Rng.{rng_state};
 

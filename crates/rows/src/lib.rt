@@ -1,5 +1,7 @@
 // Lent tables and packed words: record rows, batch operations, and how many rows are lent.
 // Definitions: specs/Packed.antt for fields in a word, specs/Rows.antt for rows and operations, specs/Lent.antt.
+#![tactic(auto)]
+
 ghost use Rattle.std.specs.Prelude.{◌+◌, ◌*◌, ◌<◌, min, ◌≡◌, length};
 ghost use Rattle.rows.specs.Rows.{bit, row_word, row_of, row_at, set_row, RowFits, operation_word, operation_of, operation_at, OperationFits};
 ghost use Rattle.rows.specs.Lent.{rows_lent, rows_lent_plain};
@@ -7,15 +9,15 @@ ghost use Rattle.rows.specs.Lent.{rows_lent, rows_lent_plain};
 use config::Config;
 
 // A place in the record table. 32 bits, as an active entry has.
-#[derive(Drop)]
+#[derive(Clone, Copy)]
 pub struct Node(pub u32);
 
 // The application's number.
-#[derive(Drop)]
+#[derive(Clone, Copy)]
 pub struct Id(pub u64);
 
 // `at` is the offset of the first coordinate byte in the log, or in the snapshot.
-#[derive(Drop)]
+#[derive(Clone, Copy)]
 pub struct Row {
     pub id: Id,
     pub deleted: bool,
@@ -25,7 +27,7 @@ pub struct Row {
 }
 
 // `at` is the caption's offset in its buffer.
-#[derive(Drop)]
+#[derive(Clone, Copy)]
 pub struct Operation {
     pub id: Id,
     pub put: bool,

@@ -1,6 +1,8 @@
 // Snapshots, read: the header, the records, a row for each, the active nodes.
 // The tests stand in document 01's order. The definitions are those of `meaning`, specs/Snapshot.antt; specs/Told.antt says how an
 // answer tells them.
+#![tactic(auto)]
+
 ghost use Rattle.std.specs.Prelude.{◌≡◌, ◌+◌, ◌*◌, ◌≤◌, ◌++◌, cond, length, take, drop};
 ghost use Rattle.crc32.specs.Crc.{crc_of};
 ghost use Rattle.refusal.specs.Refusal.{answer};
@@ -18,7 +20,7 @@ use refusal::{Checked, Measured, Refusal};
 use rows::{Id, Node, Row};
 
 // `first` is where the records begin.
-#[derive(Drop)]
+#[derive(Clone, Copy)]
 pub struct Header {
     pub config: Config,
     pub sequence: u64,
@@ -26,28 +28,28 @@ pub struct Header {
     pub first: usize,
 }
 
-#[derive(Drop)]
+#[derive(Clone, Copy)]
 pub enum ReadHeader {
     Read(Header),
     Refused(Refusal),
 }
 
 // A row, and where the next record begins.
-#[derive(Drop)]
+#[derive(Clone, Copy)]
 enum ReadRecord {
     Found(Row, usize),
     Refused(Refusal),
 }
 
 // Where the records end, their encoded size, and the CRC of all bytes but its own.
-#[derive(Drop)]
+#[derive(Clone, Copy)]
 enum ReadRecords {
     Found(usize, usize, u32),
     Refused(Refusal),
 }
 
 // What a snapshot says, its active nodes apart.
-#[derive(Drop)]
+#[derive(Clone, Copy)]
 struct Parts {
     config: Config,
     crc: u32,
@@ -56,13 +58,13 @@ struct Parts {
     size: usize,
 }
 
-#[derive(Drop)]
+#[derive(Clone, Copy)]
 enum ReadParts {
     Read(Parts),
     Refused(Refusal),
 }
 
-#[derive(Drop)]
+#[derive(Clone, Copy)]
 pub struct SnapshotInfo {
     pub config: Config,
     pub crc: u32,
@@ -72,7 +74,7 @@ pub struct SnapshotInfo {
     pub size: usize,
 }
 
-#[derive(Drop)]
+#[derive(Clone, Copy)]
 pub enum ReadSnapshot {
     Accepted(SnapshotInfo),
     Refused(Refusal),

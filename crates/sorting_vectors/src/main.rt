@@ -1,5 +1,7 @@
 // Sorts 600 nodes by IDs of six kinds. For each it writes the kind, whether the IDs rise before and after, whether
 // they are in order after, a hash of the IDs in that order, and the sum of all entries, the untouched ones too.
+#![tactic(auto)]
+
 ghost use Rattle.std.specs.Prelude.{◌≡◌, ℕ, ◌<◌, ◌≤◌, length, get_or};
 ghost use Rattle.sorting.specs.Sorting.{InRows, FirstInRows};
 

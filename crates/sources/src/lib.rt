@@ -1,5 +1,7 @@
 // Where a record's bytes lie: a part of the snapshot or of the log, and which part shows a row's caption or vector.
 // Definitions: specs/Sources.antt.
+#![tactic(auto)]
+
 ghost use Rattle.std.specs.Prelude.{◌≡◌, ◌≤◌, length};
 ghost use Rattle.config.specs.Limits.{max_dimensions};
 ghost use Rattle.rows.specs.Rows.{RowFits};
@@ -8,14 +10,14 @@ ghost use Rattle.sources.specs.Sources.{source_of, bytes_of, start_of, outside a
 use rows::Row;
 
 // What is shown of a row.
-#[derive(Drop)]
+#[derive(Clone, Copy)]
 pub enum Shown {
     Caption,
     Vector,
 }
 
 // The `count` bytes from `at` of the log, or of the snapshot.
-#[derive(Drop)]
+#[derive(Clone, Copy)]
 pub struct Part {
     pub from_log: bool,
     pub at: usize,

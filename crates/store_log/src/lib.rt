@@ -1,6 +1,8 @@
 // A log, read: one operation, one frame. Every operation of a frame is decoded before anything is applied, and nothing is kept
 // of a batch but how many operations it has: whoever applies them reads them again where they lie.
 // The definitions are those of `meaning` (Log); specs/Told.antt says how an answer tells them.
+#![tactic(auto)]
+
 ghost use Rattle.std.specs.Prelude.{◌≡◌, ◌+◌, ◌≤◌, length};
 ghost use Rattle.crc32.specs.Steps.{Rows};
 ghost use Rattle.config.specs.Limits.{min_frame, max_dimensions};
@@ -17,7 +19,7 @@ use refusal::{Checked, Measured, Refusal};
 use rows::{Id, Row};
 
 // An operation, and where the next one begins.
-#[derive(Drop)]
+#[derive(Clone, Copy)]
 pub enum ReadOperation {
     Put(Row, usize),
     Remove(Id, usize),
@@ -25,7 +27,7 @@ pub enum ReadOperation {
 }
 
 // `operations` is how many; `next` is the byte behind the frame.
-#[derive(Drop)]
+#[derive(Clone, Copy)]
 pub struct Frame {
     pub start: usize,
     pub sequence: u64,
@@ -35,7 +37,7 @@ pub struct Frame {
 }
 
 // What stands at a byte of the log.
-#[derive(Drop)]
+#[derive(Clone, Copy)]
 pub enum ReadFrame {
     TooLittle,
     Whole(Frame),

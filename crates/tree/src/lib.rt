@@ -8,13 +8,15 @@
 // while replay runs. `finish` takes them out of the words again.
 //
 // Definitions: specs/Grown.antt for a table with its tree, those of `links` and those of `digital_tree`.
+#![tactic(auto)]
+
 ghost use Rattle.std.specs.Prelude.{◌+◌, ◌*◌, ◌<◌, ◌≤◌, ◌≡◌, true, ◌++◌, length, get_or, take, drop};
 ghost use Rattle.config.specs.Limits.{max_records};
 ghost use Rattle.digital_tree.specs.Look.{mixed_id, bit_at, Inside};
 ghost use Rattle.links.specs.Links.{links, live_link, plain_rows, put_at, deleted_unit};
 ghost use Rattle.tree.specs.Grown.{Absent, Finds, Once, Rising, Bound, link_of, cell_of, child_of, Grown, Spliced, Added, Marked, Rises, TakenUp, Room};
 
-#[derive(Drop)]
+#[derive(Clone, Copy)]
 pub struct Tree {
     pub root: usize,
     pub sorted: usize,
@@ -22,7 +24,7 @@ pub struct Tree {
 }
 
 // `link` is 0, or one more than the live node; `cell` is where a node of the ID belongs in the tree.
-#[derive(Drop)]
+#[derive(Clone, Copy)]
 pub struct Place {
     pub link: usize,
     pub cell: usize,

@@ -1,5 +1,7 @@
 // UTF-8 by RFC 3629, section 4: whether bytes are UTF-8, and how far.
 // The definition is `specs/Utf8.antt`. Every byte string has an answer: nothing is refused.
+#![tactic(auto)]
+
 ghost use Rattle.std.specs.Prelude.{◌≡◌, ◌+◌, ◌<◌, ◌≤◌, length, get_or, take, drop};
 ghost use Rattle.std.specs.Int.Bits.{bit_or};
 ghost use Rattle.utf8.specs.Utf8.{Range, char_length, valid_front, is_utf8};

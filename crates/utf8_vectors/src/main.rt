@@ -1,6 +1,8 @@
 // Runs is_utf8 and valid_front over published boundary cases, one to a line of standard input, in hexadecimal, and writes for each y or n
 // and the length of the valid front. `vectors.py` beside this folder makes the cases from the tables of RFC 3629 and of the Unicode
 // standard, and what is expected by Python's own bytes.decode, not by this code.
+#![tactic(auto)]
+
 ghost use Rattle.std.specs.Prelude.{◌+◌, ◌<◌, ◌≤◌, length};
 
 fn main() {

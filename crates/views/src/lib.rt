@@ -1,5 +1,7 @@
 // Lookup by ID, and the views: a node's caption or vector as a part of the snapshot or of the log, in place.
 // The definitions are those of `meaning` (Views); specs/Told.antt says how an answer tells them.
+#![tactic(auto)]
+
 ghost use Rattle.std.specs.Prelude.{◌≡◌, ◌≤◌};
 ghost use Rattle.config.specs.Limits.{max_dimensions};
 ghost use Rattle.refusal.specs.Refusal.{number_told};
@@ -19,7 +21,7 @@ use rows::{Id, Node, Row};
 use sources::{Part, Shown};
 
 // The lowest live node of an ID, or none.
-#[derive(Drop)]
+#[derive(Clone, Copy)]
 pub enum Found {
     Node(Node),
     None,
@@ -27,18 +29,18 @@ pub enum Found {
 }
 
 // The row of a node.
-#[derive(Drop)]
+#[derive(Clone, Copy)]
 enum Named {
     Row(Row),
     Refused(Refusal),
 }
 
 // What a view is asked: the count, the node and d.
-#[derive(Drop)]
+#[derive(Clone, Copy)]
 struct Asked(usize, Node, usize);
 
 // The part that a view gives.
-#[derive(Drop)]
+#[derive(Clone, Copy)]
 pub enum Viewed {
     Part(Part),
     Refused(Refusal),

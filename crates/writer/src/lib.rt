@@ -1,6 +1,8 @@
 // Snapshots, written: Full with every row below the count, or Compacted with the live ones.
 // Nothing is written before everything has been tested. The definitions are those of `meaning` (Writer, File, Calls);
 // specs/RowsWritten.antt has what the steps are told and say on the way.
+#![tactic(auto)]
+
 ghost use Rattle.std.specs.Prelude.{◌≡◌, false, not, cond, map, ◌+◌, ◌*◌, ◌≤◌, ◌<◌, eqb, length, take};
 ghost use Rattle.refusal.specs.Refusal.{written_told};
 ghost use Rattle.crc32.specs.Crc.{crc_of};
@@ -27,7 +29,7 @@ use rows::{Node, Row};
 use sources::Shown;
 
 // What is to be written: how many records, and how many bytes they take.
-#[derive(Drop)]
+#[derive(Clone, Copy)]
 struct Totals {
     records: usize,
     bytes: usize,
