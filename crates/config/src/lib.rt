@@ -4,7 +4,7 @@
 
 ghost use Rattle.std.specs.Prelude.{◌≡◌};
 ghost use Rattle.refusal.specs.Refusal.{checked};
-ghost use Rattle.config.specs.Settings.{defaults, with_m, with_ef, with_seed, with_metric, in_range, validate as validateOf, metric_of, metric_told, metric_number, is_cosine, caption_limit};
+ghost use Rattle.config.specs.Settings.{defaults, with_m, with_ef, with_seed, with_metric, in_range, validate as validate_of, metric_of, metric_told, metric_number, is_cosine, caption_limit};
 
 use refusal::{Checked, Refusal};
 
@@ -148,7 +148,7 @@ impl Config {
     }
 
     pub fn validate(self) -> Checked
-        ensures { result ≡ checked (validateOf self) }
+        ensures { result ≡ checked (validate_of self) }
     {
         let d = self.dimensions;
         let m = self.m;

@@ -3,7 +3,6 @@ pub mod Bytes
 pub mod Slices
 pub mod Sealed
 pub mod Table
-pub mod Arms
 pub mod Sparse
 pub mod Register
 pub mod Known

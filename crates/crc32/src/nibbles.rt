@@ -4,6 +4,7 @@ ghost use Rattle.crc32.specs.Crc.{bits_in, bytes_in};
 ghost use Rattle.crc32.specs.Steps.{shifts};
 
 // Internal: k and then four zero bits.
+#[tactic(auto, unfolding(crate::specs::Steps::shift, crate::specs::Steps::shifts))]
 fn nibble(k: u32) -> u32
     requires { k < 16 }
     ensures { result ≡ shifts 4 k }

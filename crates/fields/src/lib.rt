@@ -26,6 +26,7 @@ pub enum Field64 {
 }
 
 // The sum of a cursor and a width may not fit a usize, so the readers subtract from the length.
+#[tactic(auto, using(crate::proofs::Readers::field8_past))]
 pub fn read_u8(s: &[u8], at: usize) -> Field8
     ensures { result ≡ field8 s.now at }
 {
@@ -35,6 +36,7 @@ pub fn read_u8(s: &[u8], at: usize) -> Field8
     Field8::Value(s[at], at + 1)
 }
 
+#[tactic(auto, using(crate::proofs::Readers::field32_past))]
 pub fn read_u32(s: &[u8], at: usize) -> Field32
     ensures { result ≡ field32 s.now at }
 {
@@ -47,6 +49,7 @@ pub fn read_u32(s: &[u8], at: usize) -> Field32
     Field32::Value(get_u32(s, at), at + 4)
 }
 
+#[tactic(auto, using(crate::proofs::Readers::field64_past))]
 pub fn read_u64(s: &[u8], at: usize) -> Field64
     ensures { result ≡ field64 s.now at }
 {

@@ -7,7 +7,6 @@ use native.Mathlib.Omega.{arith}
 use lib.ListN.{length}
 use Rattle.refusal.specs.Refusal.{Result, answer, refused, ◌>>=◌, refuse, told, size_told, written_told}
 use Rattle.refusal.specs.declared.Refusal.{Refusal}
-use Rattle.refusal.specs.declared.Checked.TheVariants as Checks
 use Rattle.refusal.specs.declared.Measured.TheVariants as Measures
 use Rattle.refusal.specs.declared.Written.TheVariants as Writes
 

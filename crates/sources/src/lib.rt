@@ -5,7 +5,7 @@
 ghost use Rattle.std.specs.Prelude.{◌≡◌, ◌≤◌, length};
 ghost use Rattle.config.specs.Limits.{max_dimensions};
 ghost use Rattle.rows.specs.Rows.{RowFits};
-ghost use Rattle.sources.specs.Sources.{source_of, bytes_of, start_of, outside as outsideOf, Inside, shown_part};
+ghost use Rattle.sources.specs.Sources.{source_of, bytes_of, start_of, outside as outside_of, Inside, shown_part};
 
 use rows::Row;
 
@@ -57,7 +57,7 @@ fn source_length(snapshot: &[u8], log: &[u8], logged: bool) -> usize
 
 // Internal: whether a part passes its source's end. The sum of its first byte and its length may not fit a usize.
 pub fn outside(snapshot: &[u8], log: &[u8], part: Part) -> bool
-    ensures { result ≡ outsideOf snapshot.now log.now part }
+    ensures { result ≡ outside_of snapshot.now log.now part }
 {
     let n = source_length(snapshot, log, part.from_log);
     if n < part.at {

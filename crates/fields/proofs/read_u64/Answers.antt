@@ -1,0 +1,11 @@
+-- `fields::read_u64` meets its contract: the answer where there is room is the definition's. Where there is none, the check cites `Readers`.
+-- Assumes nothing.
+use mathlib.Core.Path.{sym, ap, ◌∙◌}
+use Prim.Native.Nat.{ℕ, ◌+◌}
+use native.Mathlib.Omega.{arith}
+use Rattle.fields.proofs.Readers.{field64_room}
+use Rattle.fields.specs.declared.Field64.TheVariants as F64
+use Rattle.fields.proofs.read_u64.Goals as goal
+
+pub returns : goal.returns
+returns c = let a = c.args in ap (λ (v : ℕ). F64.Value v (a.at + 8)) c.get_u64.ensures ∙ sym (field64_room a.s.now a.at (omega arith))

@@ -1,0 +1,10 @@
+-- `tree::child` meets its contract.
+-- Assumes nothing.
+use borrow.Author.Tests.{eq-eqb, ne_eqb}
+use Rattle.tree.proofs.child.Goals as goal
+
+pub returns-then-link-eq0 : goal.returns-then-link-eq0
+returns-then-link-eq0 c = simp (eq-eqb _ _ c.if-link-eq0.true)
+
+pub returns : goal.returns
+returns c = simp (ne_eqb _ _ c.if-link-eq0.false) c.link_at.ensures
