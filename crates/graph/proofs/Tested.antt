@@ -22,7 +22,7 @@ use Rattle.graph.proofs.Several.{each_at, did_pass}
 use Rattle.graph.proofs.Lost.{none_at, lost_none_at}
 
 pub record Neighbourly (count node : ℕ) (before : List ℕ) (x : ℕ) : Type 0 where
-  pub in_range_lem : x < count
+  pub in_range : x < count
   pub another : x ≡ node → ⊥
   pub fresh : among x before ≡ false
 
@@ -32,7 +32,7 @@ neighbourly count node before x e =
     let a = went WrongNeighbour (leb count x) _ tt e in
     let b = went WrongNeighbour (eqb x node) _ tt a.then in
     record {
-      in_range_lem = leb-false _ _ a.test_false;
+      in_range = leb-false _ _ a.test_false;
       another = eqb-false _ _ b.test_false;
       fresh = not_refused WrongNeighbour (among x before) b.then;
     }
@@ -82,7 +82,7 @@ module _ (m count : ℕ) (g : Graph) (sized : length g ≡ count) (tested : node
   all_near node level i h = by (ltb level (levels_of g node)) refl
     where
       at : (t : Bool) → level < levels_of g node → ltb i (length (neighbours_of g node level)) ≡ t → get_or (neighbours_of g node level) i 0 < count
-      at true k e = (neighbour_passes node level i h k (ltb-true _ _ e)).in_range_lem
+      at true k e = (neighbour_passes node level i h k (ltb-true _ _ e)).in_range
       at false k e = let z : get_or (neighbours_of g node level) i 0 ≡ 0 = get_or-eq_default (neighbours_of g node level) 0 (ltb-false _ _ e) in omega arith
 
       by : (t : Bool) → ltb level (levels_of g node) ≡ t → get_or (neighbours_of g node level) i 0 < count
@@ -131,7 +131,7 @@ module _ (m count : ℕ) (g : Graph) (sized : length g ≡ count) (tested : node
           tall = λ node h. (levels_bounds node h).0;
           low = λ node h. (levels_bounds node h).1;
           few = degree_bound;
-          in_range_lem = λ node level i e. (neighbour_passes node level i e.node_in e.level_in e.place_in).in_range_lem;
+          in_range = λ node level i e. (neighbour_passes node level i e.node_in e.level_in e.place_in).in_range;
           another = λ node level i e. (neighbour_passes node level i e.node_in e.level_in e.place_in).another;
           once = one_place;
           has_level = level_had;

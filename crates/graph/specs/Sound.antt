@@ -20,7 +20,7 @@ pub record Sound (m count : ℕ) (entry : Entry) (g : Graph) : Type 0 where
   pub tall : (node : ℕ) → node < count → min_levels ≤ levels_of g node
   pub low : (node : ℕ) → node < count → levels_of g node ≤ max_levels
   pub few : (node level : ℕ) → node < count → level < levels_of g node → length (neighbours_of g node level) ≤ degree_limit m level
-  pub in_range_lem : (node level i : ℕ) → Edge count g node level i → neighbour g node level i < count
+  pub in_range : (node level i : ℕ) → Edge count g node level i → neighbour g node level i < count
   pub another : (node level i : ℕ) → Edge count g node level i → neighbour g node level i ≡ node → ⊥
   pub once : (node level i j : ℕ) → Edge count g node level i → Edge count g node level j → neighbour g node level i ≡ neighbour g node level j → i ≡ j
   pub has_level : (node level i : ℕ) → Edge count g node level i → level < levels_of g (neighbour g node level i)

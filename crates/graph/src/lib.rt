@@ -9,7 +9,7 @@ ghost use Rattle.config.specs.Limits.{min_cache_bytes, max_records, max_m};
 ghost use Rattle.refusal.specs.Refusal.{answer, checked, number_told};
 ghost use Rattle.graph.specs.Graph.{Graph, degree_limit, any_of, lost_at, lost_from, edge_lost, entry_of, linked_test};
 ghost use Rattle.graph.specs.Layout.{first_node, node_length, graph_length, starts_from};
-ghost use Rattle.graph.specs.Cache.{numbers_at, links_at, several, read_neighbour, read_level, read_node, read_nodes, head_test, room_test, read_header as header_of, read_body, read_graph, read_cache as cacheOf};
+ghost use Rattle.graph.specs.Cache.{numbers_at, links_at, several, read_neighbour, read_level, read_node, read_nodes, head_test, room_test, read_header as header_of, read_body, read_graph, read_cache as cache_of};
 ghost use Rattle.graph.specs.Decoded.{graph_at, height_at, Laid, EntryIn};
 ghost use Rattle.graph.specs.Neighbours.{level_part, level_above, neighbours as neighbours_of, part_given, part_of};
 ghost use Rattle.graph.specs.Marks.{Under, Walks};
@@ -557,8 +557,8 @@ pub fn read_cache(
     count: usize,
     starts: &mut [u64],
 ) -> ReadCache
-    ensures value { result ≡ cache_told (cacheOf config crc sequence count (length starts.old) bytes.now) }
-    ensures starts_after { starts.new ≡ starts_after (length starts.old) (cacheOf config crc sequence count (length starts.old) bytes.now) }
+    ensures value { result ≡ cache_told (cache_of config crc sequence count (length starts.old) bytes.now) }
+    ensures starts_after { starts.new ≡ starts_after (length starts.old) (cache_of config crc sequence count (length starts.old) bytes.now) }
 {
     let lent = starts.len();
     let header = match read_header(bytes, config, crc, sequence, count, lent) {

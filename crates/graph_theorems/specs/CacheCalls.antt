@@ -1,7 +1,7 @@
--- The cache's calls. Of each: `…Meets` is what its contract says of a result and of what was lent, in the contract's own words; `…-contract`: what a caller
--- learns from the contract in the source is this; `…-one-answer`: nothing is left to choose. A view is a slice: its bytes, and the place of the first (`ptr`).
+-- The cache's calls. Of each: `…Meets` is what its contract says of a result and of what was lent, in the contract's own words; `…_contract`: what a caller
+-- learns from the contract in the source is this; `…_one_answer`: nothing is left to choose. A view is a slice: its bytes, and the place of the first (`ref_ptr`).
 use Rattle.std.specs.Prelude.{ℕ, ◌≡◌, List, length}
-use Rattle.std.specs.Borrow.{Bor}
+use Rattle.std.specs.Borrow.{Bor, MutBor}
 use Rattle.config.specs.declared.Config.{Config}
 use Rattle.rows.specs.declared.Node.{Node}
 use Rattle.refusal.specs.Refusal.{number_told}
@@ -34,7 +34,7 @@ pub record NeighboursPartMeets (cache starts : List ℕ) (count : ℕ) (node : N
   pub result_is : r ≡ shown_told (neighbours cache starts count node.0 level)
 
 pub record CacheCalls : Type 0 where
-  pub read_cache_contract : (κs : _) (bytes : Bor (List ℕ)) (config : Config) (crc sequence count : ℕ) (starts : Bor (List ℕ)) (r : ReadCache) (starts' : Bor (List ℕ))
+  pub read_cache_contract : (κs : _) (bytes : Bor (List ℕ)) (config : Config) (crc sequence count : ℕ) (starts : MutBor (List ℕ)) (r : ReadCache) (starts' : MutBor (List ℕ))
       → ReadCacheCall.Learnt κs (bytes, (config, (crc, (sequence, (count, (starts, tt)))))) r (bytes, (config, (crc, (sequence, (count, (starts', tt))))))
       → ReadCacheMeets bytes.now config crc sequence count starts.now r starts'.now
   pub read_cache_one_answer : (bytes : List ℕ) (config : Config) (crc sequence count : ℕ) (starts : List ℕ) (r s : ReadCache) (starts' starts'' : List ℕ)
@@ -44,7 +44,7 @@ pub record CacheCalls : Type 0 where
       → NeighboursCall.Learnt κs (cache, (starts, (count, (node, (level, tt))))) r (cache, (starts, (count, (node, (level, tt)))))
       → NeighboursMeets cache starts.now count node level r
   pub neighbours_one_answer : (cache : Bor (List ℕ)) (starts : List ℕ) (count : ℕ) (node : Node) (level : ℕ) (r r' : Bor (List ℕ))
-      → NeighboursMeets cache starts count node level r → NeighboursMeets cache starts count node level r' → (r.ref_ptr ≡ r'.ptr) × (r.now ≡ r'.now)
+      → NeighboursMeets cache starts count node level r → NeighboursMeets cache starts count node level r' → (r.ref_ptr ≡ r'.ref_ptr) × (r.now ≡ r'.now)
   pub neighbours_number_contract : (κs : _) (cache starts : Bor (List ℕ)) (count : ℕ) (node : Node) (level r : ℕ)
       → NeighboursNumberCall.Learnt κs (cache, (starts, (count, (node, (level, tt))))) r (cache, (starts, (count, (node, (level, tt)))))
       → NeighboursNumberMeets cache.now starts.now count node level r

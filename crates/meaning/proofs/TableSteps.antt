@@ -2,11 +2,10 @@
 use Prim.Native.Nat.{ℕ, suc, ◌+◌, ◌-◌, ◌≤◌, ◌<◌}
 use native.Mathlib.Numerals.{add-one}
 use native.Mathlib.Omega.{arith}
-use mathlib.Core.Path.{◌≡◌, refl, sym, ap, ◌∙◌}
+use mathlib.Core.Path.{◌≡◌, sym, ap, ◌∙◌}
 use mathlib.Core.List.{List, [], ◌∷◌}
 use Rattle.rows.specs.Rows.{row_at, RowFits}
 use Rattle.rows.proofs.RowLaws.{row_of_fits}
-use Rattle.rows.specs.declared.Row.{Row}
 use Rattle.meaning.specs.Tables.{rows_from, rows_in}
 
 -- a row of any table keeps to its widths

@@ -1,5 +1,5 @@
 -- The encoders of a single frame and of a batch: what a request's words ask for, the refusals in document 01's order, the frame's bytes.
-use Rattle.std.specs.Prelude.{ℕ, zero, suc, ◌+◌, ◌*◌, ◌/◌, ◌%◌, Bool, true, false, not, cond, List, [], ◌∷◌, ◌++◌, length, take, drop, get_or, ltb, leb, eqb}
+use Rattle.std.specs.Prelude.{ℕ, zero, suc, ◌+◌, ◌*◌, ◌/◌, ◌%◌, Bool, not, cond, List, [], ◌∷◌, ◌++◌, length, take, drop, get_or, ltb, eqb}
 use Rattle.crc32.specs.Crc.{crc_of}
 use Rattle.utf8.specs.Utf8.{is_utf8}
 use Rattle.coordinates.specs.Coordinates.{coordinate_bytes}
@@ -7,7 +7,7 @@ use Rattle.fields.specs.Fields.{part, bytes}
 use Rattle.config.specs.Limits.{max_frame, max_batch_operations}
 use Rattle.config.specs.declared.Config.{Config}
 use Rattle.rows.specs.Rows.{operation_of}
-use Rattle.refusal.specs.Refusal.{Result, answer, refused, ◌>>=◌, refuse}
+use Rattle.refusal.specs.Refusal.{Result, answer, ◌>>=◌, refuse}
 use Rattle.refusal.specs.declared.Refusal.TheVariants.{CaptionTooLong, NotUtf8, WrongLength, WrongSequence, WrongBatchCount, OutputTooShort, RequestMalformed}
 use Rattle.config.specs.Settings.{validate, caption_limit}
 use Rattle.layout.specs.Layout.{frame_length}

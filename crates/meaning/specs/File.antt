@@ -1,5 +1,5 @@
 -- A snapshot as it is written: version 2.
-use Rattle.std.specs.Prelude.{ℕ, suc, ◌+◌, ◌*◌, Bool, true, false, cond, List, [], ◌∷◌, ◌++◌, length}
+use Rattle.std.specs.Prelude.{ℕ, Bool, true, false, List, [], ◌∷◌, ◌++◌, length}
 use Rattle.crc32.specs.Crc.{crc_of}
 use Rattle.fields.specs.Fields.{bytes}
 use Rattle.config.specs.Settings.{metric_number, ef_of}

@@ -1,5 +1,5 @@
 -- A snapshot as it is read: its header, its records, and every refusal in document 01's order.
-use Rattle.std.specs.Prelude.{ℕ, zero, suc, ◌+◌, ◌*◌, ◌-◌, ◌/◌, Bool, true, false, not, cond, List, [], ◌∷◌, length, ltb, eqb}
+use Rattle.std.specs.Prelude.{ℕ, zero, suc, ◌+◌, ◌-◌, ◌/◌, Bool, true, false, not, cond, List, [], ◌∷◌, length, ltb, eqb}
 use Rattle.refusal.specs.Refusal.{Result, answer, refused, ◌>>=◌, refuse}
 use Rattle.refusal.specs.declared.Refusal.TheVariants.{LengthOutOfBounds, WrongMagic, WrongVersion, PastTheEnd, WrongCount, WrongFlag, VectorPastTheEnd, BytesLeftOver, WrongFileCrc, ActiveTwice, TooFewRows}
 use Rattle.crc32.specs.Crc.{crc_of}

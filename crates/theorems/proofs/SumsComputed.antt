@@ -1,5 +1,4 @@
 -- The sums at the edges, computed; and a cut of the worked example, after its first frame.
-use Prim.Native.Nat.{◌-◌}
 use mathlib.Core.Path.{refl}
 use Rattle.crc32.specs.Crc.{crc_of, bytes_in, bits_in, bit_in}
 use Rattle.utf8.specs.Utf8.{is_utf8, valid_front, front_in, char_length}

@@ -1,6 +1,6 @@
 -- Demand 3 over the answer of the writer itself: the file is what `write` gives for the tables that recovery left at the cut, lent the
 -- log's front up to the cut with anything behind it, or nothing.
-use Prim.Native.Nat.{ℕ, ◌+◌, ◌≤◌}
+use Prim.Native.Nat.{ℕ, ◌≤◌}
 use native.Mathlib.Omega.{arith}
 use mathlib.Core.Path.{◌≡◌, sym, ap, ap₂, ◌∙◌, subst}
 use mathlib.Core.List.{List, ◌++◌, map}

@@ -1,4 +1,4 @@
--- The tests behind 12, 13 and 15 are the standards' own: IEEE 754's, of the values that bit patterns stand for (the kit's `lib.Ieee`), and
+-- The tests behind 12, 13 and 15 are the standards' own: IEEE 754's, of the values that bit patterns stand for (std's `Float.Ieee`), and
 -- RFC 3629's, by its grammar (utf8/Utf8). The contracts cite the tests by bits and bytes. And the CRC has its published check value.
 use Rattle.std.specs.Prelude.{ℕ, ◌≤◌, ◌≡◌, Bool, true, ◌&&◌, cond, List, [], ◌∷◌, map, length, take, Float}
 use Rattle.std.specs.Float.{binary32}

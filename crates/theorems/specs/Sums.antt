@@ -1,5 +1,5 @@
 -- The sums at the edges, P1 to P12 of document 01 but P10, which is the cache's, and its worked example: each on bytes.
-use Rattle.std.specs.Prelude.{ℕ, ◌+◌, ◌-◌, ◌≡◌, true, false, List, [], ◌∷◌, ◌++◌}
+use Rattle.std.specs.Prelude.{ℕ, ◌+◌, ◌≡◌, true, false, List, [], ◌∷◌, ◌++◌}
 use Rattle.crc32.specs.Crc.{crc_of}
 use Rattle.utf8.specs.Utf8.{is_utf8}
 use Rattle.config.specs.Settings.{settings}
@@ -8,7 +8,7 @@ use Rattle.rows.specs.Rows.{row_word}
 use Rattle.refusal.specs.Refusal.{answer, refused}
 use Rattle.refusal.specs.declared.Refusal.TheVariants.{WrongLength, WrongCount, VectorAllZero, WrongSequence, GapAfterSnapshot}
 use Rattle.layout.specs.declared.Shape.TheVariants.{Single, Batch}
-use Rattle.meaning.specs.Replay.{put, remove, Frame, active, size}
+use Rattle.meaning.specs.Replay.{put, remove, Frame}
 use Rattle.meaning.specs.Records.{Record}
 use Rattle.meaning.specs.Snapshot.{read_snapshot}
 use Rattle.meaning.specs.Log.{length_at, frames_of}
