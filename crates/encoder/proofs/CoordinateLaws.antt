@@ -4,7 +4,7 @@ use mathlib.Core.Path.{◌≡◌, refl, sym, ap, ap₂, ◌∙◌}
 use mathlib.Core.List.{List, [], ◌∷◌, ◌++◌, append_assoc, append-nil}
 use native.Mathlib.Numerals.{add-one}
 use lib.ListN.{length, take, get_or}
-use lib.Seq.{take-suc, take-length, length-take-le}
+use lib.Seq.{take-suc, length-take-le}
 use Rattle.fields.specs.Fields.{bytes}
 use Rattle.config.specs.Settings.{is_cosine}
 use Rattle.config.specs.declared.Config.{Config}
@@ -34,9 +34,6 @@ coordinates_more cs i h =
 
 pub coordinates_size : (cs : List ℕ) (i : ℕ) → i ≤ length cs → 4 * i ≡ length (coordinate_bytes (take i cs))
 coordinates_size cs i h = sym (length_coordinate_bytes (take i cs) ∙ ap (λ (k : ℕ). 4 * k) (length-take-le i cs h))
-
-pub coordinates_all : (cs : List ℕ) (i : ℕ) → i ≡ length cs → coordinate_bytes (take i cs) ≡ coordinate_bytes cs
-coordinates_all cs i e = ap (λ (k : ℕ). coordinate_bytes (take k cs)) e ∙ ap coordinate_bytes (take-length cs)
 
 pub vector_again : (c : Config) (coords : List ℕ) → length coords ≡ c.dimensions → ((k : ℕ) → get_or coords k 0 < 4294967296)
     → coordinates c (coordinate_bytes coords) ≡ vector_of (is_cosine c.metric) coords

@@ -1,10 +1,10 @@
 -- One operation: how long its fields are, as what it is checked, and what is known of it once it is encoded.
-use Prim.Native.Nat.{ℕ, suc, ◌+◌, ◌≤◌, ◌<◌}
+use Prim.Native.Nat.{ℕ, suc, ◌+◌, ◌≤◌}
 use mathlib.Core.Path.{◌≡◌, refl, sym, ap, ◌∙◌}
 use mathlib.Core.Bool.{Bool, true, false, not, cond, true≢false}
 use mathlib.Core.List.{List}
 use native.Mathlib.Omega.{arith}
-use borrow.Author.Tests.{lt-ltb, le-ltb}
+use borrow.Author.Tests.{le-ltb}
 use lib.ListN.{length, take, length-append}
 use lib.Seq.{length-take-le}
 use Rattle.utf8.specs.Utf8.{is_utf8}
@@ -21,7 +21,7 @@ use Rattle.rows.specs.declared.Operation.{Operation}
 use Rattle.refusal.specs.Refusal.{Result, answer, refused, ◌>>=◌, refuse, size_told}
 use Rattle.refusal.specs.declared.Refusal.{Refusal}
 use Rattle.refusal.specs.declared.Measured.TheVariants as Measures
-use Rattle.refusal.specs.declared.Refusal.TheVariants.{CaptionTooLong, NotUtf8}
+use Rattle.refusal.specs.declared.Refusal.TheVariants.{NotUtf8}
 use Rattle.meaning.specs.Item.{coordinates}
 use Rattle.meaning.specs.Encoder.{Asked, is_put, asked_length, asked_start, Tagged, put_fields, put_for, encode_put, encode_delete, encode_operation}
 use Rattle.meaning.proofs.OperationEncoded.{put_encoded, delete_encoded}
@@ -87,9 +87,6 @@ put_caption c coords captions id n start short inside good =
         → size_told tagged_length (refuse NotUtf8 (not t) >>= (λ _. answer e)) ≡ cond t (Measures.Length (suc (length e.fields))) (Measures.Refused NotUtf8)
     last true e = refl
     last false e = refl
-
-pub put_long : (c : Config) (coords captions : List ℕ) (id n start : ℕ) → max_metadata < n → put_for c coords captions id n start ≡ refused CaptionTooLong
-put_long c coords captions id n start h = simp (lt-ltb _ _ h)
 
 pub put_vector : (c : Config) (coords captions : List ℕ) (id n start : ℕ) (why : Refusal) → n ≤ max_metadata → start + n ≤ length captions
     → coordinates c (coordinate_bytes coords) ≡ refused why → put_for c coords captions id n start ≡ refused why

@@ -59,7 +59,7 @@ length_encoded c coords captions [] es h = ap length (sym (answer_injective [] e
 length_encoded c coords captions (o ∷ os) es h =
     let s1 = passed (encode_operation c coords captions o) _ es h in
     let s2 = passed (encode_all c (cond (is_put o) (drop c.dimensions coords) coords) captions os) _ es s1.then in
-    ap length (sym (answer_injective (s1.value ∷ s2.value) es s2.then)) ∙ ap suc (length_encoded c _ captions os s2.value s2.first)
+    ap length (sym (answer_injective (s1.value ∷ s2.value) es s2.then)) ∙ ap suc (length_encoded c (cond (is_put o) (drop c.dimensions coords) coords) captions os s2.value s2.first)
 
 pub length_tagged : (c : Config) (words coords captions : List ℕ) (es : List Tagged) → encode_all c coords captions (asked words) ≡ answer es → length es ≡ length words / 2
 length_tagged c words coords captions es e = length_encoded c coords captions (asked words) es e ∙ length_asked (length words / 2) 0 words

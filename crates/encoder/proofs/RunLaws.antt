@@ -10,6 +10,7 @@ use lib.ListN.{length, take, drop, get_or, length-append, length-drop}
 use lib.Seq.{drop-drop, take_all}
 use Rattle.fields.specs.Fields.{bytes}
 use Rattle.fields.specs.Placed.{placed}
+use Rattle.fields.proofs.Numbers.{length_bytes}
 use Rattle.fields.proofs.PlacedLaws.{placed_none, placed_behind, length_placed}
 use Rattle.config.specs.Limits.{max_dimensions}
 use Rattle.config.specs.declared.Config.{Config}
@@ -132,13 +133,6 @@ module _ (c : Config) (words coords captions : List ℕ) where
   abbrev pub measured_from : ℕ → ℕ → ℕ → Measured
   measured_from sum at k = size_told (λ es. sum + length (tagged_bytes es)) (run_from c words coords captions at k)
 
-  pub measured_start : measured_from 0 0 0 ≡ size_told (λ es. length (tagged_bytes es)) (encode_all c coords captions (asked words))
-  measured_start = zero (run_from c words coords captions 0 0) ∙ ap (size_told (λ es. length (tagged_bytes es))) run_start
-    where
-      zero : (r : Result (List Tagged)) → size_told (λ es. 0 + length (tagged_bytes es)) r ≡ size_told (λ es. length (tagged_bytes es)) r
-      zero (answer es) = let e : 0 + length (tagged_bytes es) ≡ length (tagged_bytes es) = omega arith in ap Measures.Length e
-      zero (refused why) = refl
-
   pub measured_end : (sum at k : ℕ) → length words / 2 ≤ k → measured_from sum at k ≡ Measures.Length sum
   unfolding tagged_bytes
   measured_end sum at k h =
@@ -168,15 +162,6 @@ enough_start d m words e =
     e ∙ sym (n ∙ ap (λ (os : List Asked). d * put_count os) (asked_start_lem words))
 
 module _ (c : Config) (words coords captions : List ℕ) where
-  pub measuring_start : length coords ≡ c.dimensions * put_count (asked words) → Measuring c words coords captions 0 0 0
-  measuring_start e =
-      record {
-        within = omega arith;
-        few = omega arith;
-        enough = enough_start c.dimensions (length coords) words e;
-        run = measured_start c words coords captions;
-      }
-
   pub measuring_next : (sum at k m : ℕ) (o : Operation) → c.dimensions ≤ max_dimensions → Measuring c words coords captions sum at k → k < length words / 2 → o ≡ operation_at words k
       → size_told tagged_length (encode_operation c (drop at coords) captions (asked_at words k)) ≡ Measures.Length m
       → (m ≤ most_tagged) × Measuring c words coords captions (sum + m) (at + taken o.put c.dimensions) (k + 1)
@@ -212,7 +197,6 @@ pub record Left (c : Config) (words coords captions o out : List ℕ) (at from k
 -- the operation that is next, read as `op`
 pub record Next (c : Config) (words coords captions o out : List ℕ) (at from k : ℕ) (op : Operation) : Type 0 where
   pub fits : Fits c.dimensions (drop from coords) captions op
-  pub from_inside : from ≤ length coords
   pub kept : length out ≡ length o
   pub room : at + suc (length (fields_of c.dimensions (drop from coords) captions op)) ≤ length out
   pub after : (out' : List ℕ) → out' ≡ placed at (tag_of op.put ∷ fields_of c.dimensions (drop from coords) captions op) out
@@ -266,7 +250,6 @@ module _ (c : Config) (words coords captions o : List ℕ) (fit : length (tagged
       let kept = left_kept out at from k l in
       record {
         fits = encodes_fits c (drop from coords) captions op e x (λ t. vector_there words k h d from coords l.enough (put ∙ t));
-        from_inside = omega (arith, l.enough);
         kept = kept;
         room = omega (arith, l.at_is, length-append l.done (this ++ tagged_bytes s2.value), length-append this (tagged_bytes s2.value));
         after = λ out' w. record {
@@ -287,6 +270,11 @@ module _ (c : Config) (words coords captions o : List ℕ) (fit : length (tagged
 pub record One (c : Config) (words coords captions : List ℕ) (op : Operation) : Type 0 where
   pub fits : Fits c.dimensions coords captions op
   pub payload : (sequence : ℕ) → payload_bytes Single sequence (tagged_of c words coords captions) ≡ tag_of op.put ∷ (bytes 8 sequence ++ fields_of c.dimensions coords captions op)
+  pub long : (sequence : ℕ) → length (payload_bytes Single sequence (tagged_of c words coords captions)) ≡ 9 + length (fields_of c.dimensions coords captions op)
+
+-- a list of which nothing follows the first
+only : (e : Tagged) (rest es : List Tagged) → e ∷ rest ≡ es → rest ≡ [] → es ≡ e ∷ []
+only e rest es is none = sym is ∙ ap (λ (r : List Tagged). e ∷ r) none
 
 pub one_operation : (c : Config) (words coords captions : List ℕ) (op : Operation) → Accepted c words coords captions → length words ≡ 2 → op ≡ operation_at words 0
     → One c words coords captions op
@@ -300,9 +288,13 @@ one_operation c words coords captions op x two u =
     let s2 = passed (run_from c words coords captions (0 + taken (is_put asks) d) 1) _ es s1.then in
     let e = s1.value in
     let none : s2.value ≡ [] = answer_injective s2.value [] (sym s2.first ∙ run_end c words coords captions (0 + taken (is_put asks) d) 1 (omega arith)) in
-    let is : es ≡ e ∷ [] = sym (answer_injective (e ∷ s2.value) es s2.then) ∙ ap (λ (r : List Tagged). e ∷ r) none in
+    let is : es ≡ e ∷ [] = only e s2.value es (answer_injective (e ∷ s2.value) es s2.then) none in
     let y : Encodes c coords captions op e = subst (λ (o : Operation). Encodes c coords captions o e) (sym u) (operation_encodes c coords captions asks e s1.first) in
+    let F = fields_of d coords captions op in
+    let payload : (sequence : ℕ) → payload_bytes Single sequence es ≡ tag_of op.put ∷ (bytes 8 sequence ++ F) =
+    λ sequence. ap (payload_bytes Single sequence) is ∙ ap₂ (λ (t : ℕ) (f : List ℕ). t ∷ (bytes 8 sequence ++ f)) y.tag_is y.fields_are in
     record {
       fits = encodes_fits c coords captions op e y (λ t. vector_there words 0 one d 0 coords (enough_start d (length coords) words x.enough) (sym (put_at_lem words 0 op u) ∙ t));
-      payload = λ sequence. ap (payload_bytes Single sequence) is ∙ ap₂ (λ (t : ℕ) (f : List ℕ). t ∷ (bytes 8 sequence ++ f)) y.tag_is y.fields_are;
+      payload = payload;
+      long = λ sequence. ap length (payload sequence) ∙ omega (arith, length-append (bytes 8 sequence) F, length_bytes 8 sequence);
     }

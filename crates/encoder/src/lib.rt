@@ -11,9 +11,9 @@ ghost use Rattle.layout.specs.Layout.{id_length, item_length, batch_head};
 ghost use Rattle.fields.specs.Placed.{placed};
 ghost use Rattle.rows.specs.Rows.{OperationFits, operation_of};
 ghost use Rattle.refusal.specs.Refusal.{passes, checked, size_told, written_told};
-ghost use Rattle.meaning.specs.Encoder.{asked, put_count, put_fields, put_for, encode_operation as encodeOne, encode_all, tagged_bytes, payload_bytes, words_checked, encode_operations, encode_valid};
+ghost use Rattle.meaning.specs.Encoder.{asked, put_count, put_fields, put_for, encode_operation as encode_one, encode_all, tagged_bytes, payload_bytes, words_checked, encode_operations, encode_valid};
 ghost use Rattle.meaning.specs.Calls.{output_after, encode_call};
-ghost use Rattle.encoder.specs.Requests.{taken as takenBy, tag_of, fields_of, tagged_length, caption_told, Fits, head_length, tagged_of, Accepted};
+ghost use Rattle.encoder.specs.Requests.{taken as taken_by, tag_of, fields_of, tagged_length, caption_told, Fits, head_length, tagged_of, Accepted};
 
 use config::Config;
 use layout::Shape;
@@ -235,7 +235,7 @@ fn put_count(operations: &[u64]) -> usize
 }
 
 fn taken(put: bool, n: usize) -> usize
-    ensures { (result ≡ takenBy put n) × (result ≤ n) }
+    ensures { (result ≡ taken_by put n) × (result ≤ n) }
 {
     if put { n } else { 0 }
 }
@@ -285,7 +285,7 @@ fn check_operation(
     requires dimensions_le_max_dimensions { config.dimensions ≤ max_dimensions }
     requires o_value { o ≡ operation_of o.id.0 word }
     requires dimensions_in_bounds { o.put ≡ true → config.dimensions ≤ length coordinates.now }
-    ensures { result ≡ size_told tagged_length (encodeOne config coordinates.now captions.now (record { id = o.id.0; word = word })) }
+    ensures { result ≡ size_told tagged_length (encode_one config coordinates.now captions.now (record { id = o.id.0; word = word })) }
 {
     let put = o.put;
     if put {

@@ -11,7 +11,7 @@ ghost use Rattle.refusal.specs.Refusal.{written_told};
 ghost use Rattle.layout.specs.declared.Extent.TheVariants.{Full, Compacted};
 ghost use Rattle.sources.specs.declared.Shown.TheVariants.{Caption, Vector};
 ghost use Rattle.meaning.specs.Calls.{read_call, read_tables, recover_call, recover_tables, first_operation, output_after};
-ghost use Rattle.meaning.specs.Views.{lookup as lookupOf, view as view_of};
+ghost use Rattle.meaning.specs.Views.{lookup as lookup_of, view as view_of};
 ghost use Rattle.graph.specs.Neighbours.{neighbours as neighbours_of};
 ghost use Rattle.graph.specs.Told.{cache_told, starts_after, shown_told};
 ghost use Rattle.snapshot.specs.Told.{read_told};
@@ -28,12 +28,12 @@ use config::{Config, Metric, ReadMetric};
 use graph::{Entry, ReadCache, ShownLevel};
 use layout::{Extent, Shape};
 use listing_text::Heading;
-use store_log::{ReadFrame, ReadOperation};
 use recovery::Recovery;
 use refusal::{Checked, Refusal, Written};
 use rows::{Id, Node};
 use snapshot::ReadSnapshot;
 use sources::Shown;
+use store_log::{ReadFrame, ReadOperation};
 use views::{Found, Viewed};
 
 // The settings that five numbers stand for.
@@ -340,7 +340,7 @@ fn found_said(answer: Found) -> Lookup
 
 #[unsafe(no_mangle)]
 pub extern "C" fn lambspool_lookup(rows: &[u64], count: usize, id: u64) -> Lookup
-    ensures { result ≡ found_said (found_told (lookupOf rows.now count id)) }
+    ensures { result ≡ found_said (found_told (lookup_of rows.now count id)) }
 {
     found_said(views::lookup(rows, count, Id(id)))
 }

@@ -1,5 +1,5 @@
 -- Every line that is asked for is no longer than the longest: the first line of an accepted recovery, and a refusal's.
-use Prim.Native.Nat.{ℕ, suc, ◌+◌, ◌-◌, ◌≤◌, ◌<◌, ◌^◌}
+use Prim.Native.Nat.{ℕ, suc, ◌+◌, ◌≤◌, ◌<◌, ◌^◌}
 use native.Mathlib.Omega.{arith}
 use mathlib.Core.Path.{◌≡◌}
 use mathlib.Core.Bool.{Bool, true, false, cond}
@@ -28,7 +28,7 @@ use Rattle.listing_text.specs.Files.{longest_line}
 use Rattle.listing_text.specs.declared.Heading.{Heading}
 use Rattle.listing_text.specs.declared.Stopped.TheVariants as Stops
 use Rattle.listing_text.proofs.DecimalLaws.{length_within}
-use Rattle.listing_text.proofs.LineLaws.{length_before, length_named, length_three, length_state, length_log}
+use Rattle.listing_text.proofs.LineLaws.{length_before, length_three, length_state, length_log}
 
 -- a number of 8 bytes has 20 digits at the most
 digits_few : (n : ℕ) → n < 256 ^ 8 → length (decimal n) ≤ 20

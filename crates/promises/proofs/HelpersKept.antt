@@ -1,6 +1,6 @@
 -- What `specs/Helpers.antt` says of the calls between our crates.
 use Rattle.promises.specs.Helpers.{Crc32Helpers, LayoutHelpers, FieldsHelpers, CoordinatesHelpers, RowsHelpers, SourcesHelpers, SortingHelpers, ItemsHelpers, ActiveHelpers, FramesHelpers, LogHelpers, LinksHelpers, PiecesHelpers, TreeHelpers}
-use Prim.Native.Nat.{ℕ, ◌<◌}
+use Prim.Native.Nat.{ℕ}
 use native.Mathlib.Omega.{arith}
 use mathlib.Core.Path.{◌≡◌, refl, sym, ap, ap₂, ◌∙◌}
 use mathlib.Core.Bool.{Bool, true, false}

@@ -1,6 +1,6 @@
 -- What `specs/Listing.antt` says of the listing's calls and of what is listed.
 use Prim.Native.Nat.{ℕ, ◌≤◌}
-use mathlib.Core.Path.{◌≡◌, refl, sym, ap, ◌∙◌}
+use mathlib.Core.Path.{◌≡◌, sym, ap, ◌∙◌}
 use mathlib.Core.List.{List, ◌++◌, append-nil}
 use lib.Dec.{ltb}
 use lib.ListN.{length, take}

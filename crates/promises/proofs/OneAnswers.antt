@@ -2,7 +2,7 @@
 use mathlib.Core.Path.{◌≡◌, sym, ◌∙◌}
 use mathlib.Core.List.{List}
 use Prim.Native.Nat.{ℕ}
-use denote.Ref.{Bor}
+use denote.Ref.{MutBor}
 use Rattle.promises.specs.OneAnswer.{Gives, LentAfter}
 
 pub one_answer : {A : Type 0} {meant first second : A} → first ≡ meant → second ≡ meant → first ≡ second
@@ -12,5 +12,5 @@ one_answer e f = e ∙ sym f
 pub exact : {A : Type 0} {meant : A} → Gives meant (λ r. r ≡ meant)
 exact = record { contract = λ r e. e; one_answer = λ r s e f. one_answer e f }
 
-pub exact_after : {meant : List ℕ} → LentAfter meant (λ (after : Bor (List ℕ)). after.now ≡ meant)
+pub exact_after : {meant : List ℕ} → LentAfter meant (λ (after : MutBor (List ℕ)). after.now ≡ meant)
 exact_after = record { contract = λ after e. e; one_answer = λ x y e f. one_answer e f }

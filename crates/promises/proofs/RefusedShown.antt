@@ -26,7 +26,6 @@ use Rattle.meaning.specs.Recovery as Meant
 use Rattle.meaning.specs.Recovery.{bounds_for, with_snapshot, ended, recover}
 use Rattle.meaning.specs.Tables.{row_words, live_from, active_nodes, filled}
 use Rattle.meaning.specs.Calls.{read_call, read_tables, recover_call, recover_tables, write_call, encode_call, output_after, delete_refused}
-use Rattle.theorems.specs.RefusedAt.{RefusedAt}
 use Rattle.theorems.proofs.RefusedThere.{refused_at, refused_if}
 use Rattle.snapshot.specs.declared.ReadSnapshot.TheVariants as Snapshots
 use Rattle.snapshot.specs.Told.{read_told}

@@ -35,8 +35,8 @@ use Rattle.promises.proofs.RecoverShown.{told, shows, compared_is, brief_is}
 -- the cut that an accepted front has
 module _ (rows active snapshot front rest : List ℕ) (bs : Bytes snapshot) (bl : Bytes (front ++ rest)) (s : Recovered)
     (given : recover (rows_lent rows active) snapshot front ≡ recovered s) where
-  abbrev lent : ℕ
-  lent = rows_lent rows active
+  abbrev rows_there : ℕ
+  rows_there = rows_lent rows active
 
   abbrev log : List ℕ
   log = front ++ rest
@@ -44,16 +44,16 @@ module _ (rows active snapshot front rest : List ℕ) (bs : Bytes snapshot) (bl 
   bytes_front : Bytes front
   bytes_front = subst Bytes (take-append_seam front rest) (Bytes-take (length front) log bl)
 
-  end : CutTo lent snapshot log s
-  end = cut_of_accepted_front lent snapshot front rest s given
+  end : CutTo rows_there snapshot log s
+  end = cut_of_accepted_front rows_there snapshot front rest s given
 
   place_is : place end.cut ≡ s.keep
   place_is = ap (λ (x : Recovered). x.keep) end.is
 
   keep_inside : s.keep ≤ length front
   keep_inside =
-      let a = accepted lent snapshot front s given in
-      (front_cut a.read.config front [] (frames_of a.read.config front).frames s.keep (frames_to_tail lent snapshot front s a)).1
+      let a = accepted rows_there snapshot front s given in
+      (front_cut a.read.config front [] (frames_of a.read.config front).frames s.keep (frames_to_tail rows_there snapshot front s a)).1
 
   -- the log that is lent to the writer
   log_lent : (more : List ℕ) → front ++ more ≡ take (place end.cut) log ++ (drop s.keep front ++ more)
@@ -69,25 +69,25 @@ module _ (rows active snapshot front rest : List ℕ) (bs : Bytes snapshot) (bl 
       file_at_the_cut rows active snapshot log end.cut bs bl (drop s.keep front ++ more) n out after
       (let back = sym end.is in transport (λ j. WritesState rows active (back j) snapshot (log_lent more j) out (Writes.Bytes n) after) m)
 
-  alike : (n : ℕ) (out after : List ℕ) → FileAtTheCut rows active snapshot log end.cut n out after → RecoversAlike lent snapshot (take n after) log s.keep
+  alike : (n : ℕ) (out after : List ℕ) → FileAtTheCut rows active snapshot log end.cut n out after → RecoversAlike rows_there snapshot (take n after) log s.keep
   alike n out after f =
       let short = take (place end.cut) log in
       let x = there end.cut in
-      let stored = recovered_storable lent snapshot short x bs (Bytes-take (place end.cut) log bl) (front_recovers end.cut) f.new_snapshot_short in
+      let stored = recovered_storable rows_there snapshot short x bs (Bytes-take (place end.cut) log bl) (front_recovers end.cut) f.new_snapshot_short in
       let of_bytes : Bytes (take n after) = subst Bytes (sym f.is_new_snapshot) (file_bytes x.config x.state.sequence (records_of snapshot short x) stored.fit) in
       record {
         beside_the_whole_log = λ r r' words words' old new.
-            compared_is lent (take n after) log of_bytes bl words' r' new ∙ f.beside_the_whole_log ∙ sym (compared_is lent snapshot log bs bl words r old);
+            compared_is rows_there (take n after) log of_bytes bl words' r' new ∙ f.beside_the_whole_log ∙ sym (compared_is rows_there snapshot log bs bl words r old);
         beside_the_rest = λ i r' words words' old new.
-            let g = (shows lent snapshot log i words bs bl old).given in
-            brief_is lent (take n after) (drop s.keep log) of_bytes (Bytes-drop s.keep log bl) words' r' new
-            ∙ subst (λ (k : ℕ). brief (take n after) (drop k log) (recover lent (take n after) (drop k log)) ≡ brief snapshot log (recovered (shown i words))) place_is
+            let g = (shows rows_there snapshot log i words bs bl old).given in
+            brief_is rows_there (take n after) (drop s.keep log) of_bytes (Bytes-drop s.keep log bl) words' r' new
+            ∙ subst (λ (k : ℕ). brief (take n after) (drop k log) (recover rows_there (take n after) (drop k log)) ≡ brief snapshot log (recovered (shown i words))) place_is
             (f.without_the_front (shown i words) g)
             ∙ ap (brief snapshot log) (sym g)
-            ∙ sym (brief_is lent snapshot log bs bl words (Recoveries.Recovered i) old);
+            ∙ sym (brief_is rows_there snapshot log bs bl words (Recoveries.Recovered i) old);
       }
 
-  rewrites : (more out : List ℕ) (w : Written) (after : List ℕ) → WritesState rows active s snapshot (front ++ more) out w after → Rewrites lent snapshot log s.keep out w after
+  rewrites : (more out : List ℕ) (w : Written) (after : List ℕ) → WritesState rows active s snapshot (front ++ more) out w after → Rewrites rows_there snapshot log s.keep out w after
   rewrites more out (Writes.Bytes n) after m = alike n out after (file more n out after m)
   rewrites more out (Writes.Refused why) after m =
       untouched (write_call Full s.config s.state.sequence (recover_tables rows active (recovered s)).rows (record_count s) snapshot (front ++ more) out) why out after

@@ -5,7 +5,7 @@ use mathlib.Core.Bool.{Bool}
 use mathlib.Core.List.{List}
 use Rattle.refusal.specs.Refusal.{checked}
 use Rattle.fields.specs.Fields.{part}
-use Rattle.utf8.specs.Utf8.{Octets, is_utf8, valid_front}
+use Rattle.utf8.specs.Utf8.{Octets, is_utf8}
 use Rattle.coordinates.specs.Coordinates.{patterns}
 use Rattle.theorems.specs.Standards.{Decides, LongestFront}
 use Rattle.theorems.proofs.StandardsMet.{standards}

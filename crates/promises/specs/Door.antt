@@ -1,7 +1,7 @@
 -- The C entries of the crate `lambspool`, each told as `OneAnswer` says. `Said` has the number and the values of each answer.
 use Rattle.std.specs.Prelude.{ℕ, ◌≡◌, List, length}
 use Rattle.std.specs.Int.Bits.{bit_xor}
-use Rattle.std.specs.Borrow.{Bor}
+use Rattle.std.specs.Borrow.{Bor, MutBor}
 use Rattle.crc32.specs.Crc.{all_ones, bytes_in, crc_of}
 use Rattle.refusal.specs.Refusal.{written_told}
 use Rattle.layout.specs.declared.Extent.TheVariants.{Full, Compacted}
@@ -107,11 +107,11 @@ pub record DoorCalls : Type 0 where
   pub door_crc_finish_one_answer : (κs : _) (crc : ℕ) → Gives (bit_xor crc all_ones) (λ r. CrcFinishCall.Learnt κs (crc, tt) r (crc, tt))
   -- lambspool_crc32_of(bytes)
   pub door_crc_of_one_answer : (κs : _) (bytes : Bor (List ℕ)) → Gives (crc_of bytes.now) (λ r. CrcOfCall.Learnt κs (bytes, tt) r (bytes, tt))
-  pub door_read_snapshot_contract : (κs : _) (bytes rows active : Bor (List ℕ)) (r : Snapshot) (rows' active' : Bor (List ℕ))
+  pub door_read_snapshot_contract : (κs : _) (bytes : Bor (List ℕ)) (rows active : MutBor (List ℕ)) (r : Snapshot) (rows' active' : MutBor (List ℕ))
       → ReadSnapshotCall.Learnt κs (bytes, (rows, (active, tt))) r (bytes, (rows', (active', tt)))
       → DoorReadSnapshotMeets bytes.now rows.now active.now r rows'.now active'.now
   pub door_read_snapshot_one_answer : (bytes rows active : List ℕ) → OneOfThree (DoorReadSnapshotMeets bytes rows active)
-  pub door_recover_contract : (κs : _) (snapshot log rows active : Bor (List ℕ)) (r : Store) (rows' active' : Bor (List ℕ))
+  pub door_recover_contract : (κs : _) (snapshot log : Bor (List ℕ)) (rows active : MutBor (List ℕ)) (r : Store) (rows' active' : MutBor (List ℕ))
       → RecoverCall.Learnt κs (snapshot, (log, (rows, (active, tt)))) r (snapshot, (log, (rows', (active', tt))))
       → DoorRecoverMeets snapshot.now log.now rows.now active.now r rows'.now active'.now
   pub door_recover_one_answer : (snapshot log rows active : List ℕ) → OneOfThree (DoorRecoverMeets snapshot log rows active)
@@ -132,7 +132,7 @@ pub record DoorCalls : Type 0 where
   -- lambspool_vector(snapshot, log, rows, count, node, d)
   pub door_vector_one_answer : (κs : _) (snapshot log rows : Bor (List ℕ)) (count node d : ℕ)
       → Gives (part_said (viewed (view Vector d rows.now count node snapshot.now log.now))) (λ r. VectorCall.Learnt κs (snapshot, (log, (rows, (count, (node, (d, tt)))))) r (snapshot, (log, (rows, (count, (node, (d, tt)))))))
-  pub door_read_cache_contract : (κs : _) (bytes : Bor (List ℕ)) (d m ef seed metric crc sequence count : ℕ) (starts : Bor (List ℕ)) (r : Cache) (starts' : Bor (List ℕ))
+  pub door_read_cache_contract : (κs : _) (bytes : Bor (List ℕ)) (d m ef seed metric crc sequence count : ℕ) (starts : MutBor (List ℕ)) (r : Cache) (starts' : MutBor (List ℕ))
       → ReadCacheCall.Learnt κs (bytes, (d, (m, (ef, (seed, (metric, (crc, (sequence, (count, (starts, tt)))))))))) r
       (bytes, (d, (m, (ef, (seed, (metric, (crc, (sequence, (count, (starts', tt))))))))))
       → DoorReadCacheMeets bytes.now d m ef seed metric crc sequence count starts.now r starts'.now
@@ -141,40 +141,40 @@ pub record DoorCalls : Type 0 where
   -- lambspool_neighbours(cache, starts, count, node, level)
   pub door_neighbours_one_answer : (κs : _) (cache starts : Bor (List ℕ)) (count node level : ℕ)
       → Gives (neighbours_said (shown_told (neighbours cache.now starts.now count node level))) (λ r. NeighboursCall.Learnt κs (cache, (starts, (count, (node, (level, tt))))) r (cache, (starts, (count, (node, (level, tt))))))
-  pub door_write_contract : (κs : _) (d m ef seed metric sequence : ℕ) (rows : Bor (List ℕ)) (count : ℕ) (snapshot log out : Bor (List ℕ)) (r : Bytes) (after : Bor (List ℕ))
+  pub door_write_contract : (κs : _) (d m ef seed metric sequence : ℕ) (rows : Bor (List ℕ)) (count : ℕ) (snapshot log : Bor (List ℕ)) (out : MutBor (List ℕ)) (r : Bytes) (after : MutBor (List ℕ))
       → WriteCall.Learnt κs (d, (m, (ef, (seed, (metric, (sequence, (rows, (count, (snapshot, (log, (out, tt))))))))))) r
       (d, (m, (ef, (seed, (metric, (sequence, (rows, (count, (snapshot, (log, (after, tt)))))))))))
       → DoorWriteMeets d m ef seed metric sequence rows.now count snapshot.now log.now out.now r after.now
   pub door_write_one_answer : (d m ef seed metric sequence : ℕ) (rows : List ℕ) (count : ℕ) (snapshot log out : List ℕ)
       → OneEach (DoorWriteMeets d m ef seed metric sequence rows count snapshot log out)
-  pub door_write_compacted_contract : (κs : _) (d m ef seed metric sequence : ℕ) (rows : Bor (List ℕ)) (count : ℕ) (snapshot log out : Bor (List ℕ)) (r : Bytes) (after : Bor (List ℕ))
+  pub door_write_compacted_contract : (κs : _) (d m ef seed metric sequence : ℕ) (rows : Bor (List ℕ)) (count : ℕ) (snapshot log : Bor (List ℕ)) (out : MutBor (List ℕ)) (r : Bytes) (after : MutBor (List ℕ))
       → WriteCompactedCall.Learnt κs (d, (m, (ef, (seed, (metric, (sequence, (rows, (count, (snapshot, (log, (out, tt))))))))))) r
       (d, (m, (ef, (seed, (metric, (sequence, (rows, (count, (snapshot, (log, (after, tt)))))))))))
       → DoorWriteCompactedMeets d m ef seed metric sequence rows.now count snapshot.now log.now out.now r after.now
   pub door_write_compacted_one_answer : (d m ef seed metric sequence : ℕ) (rows : List ℕ) (count : ℕ) (snapshot log out : List ℕ)
       → OneEach (DoorWriteCompactedMeets d m ef seed metric sequence rows count snapshot log out)
-  pub door_encode_frame_contract : (κs : _) (d m ef seed metric sequence : ℕ) (operations coordinates captions out : Bor (List ℕ)) (r : Bytes) (after : Bor (List ℕ))
+  pub door_encode_frame_contract : (κs : _) (d m ef seed metric sequence : ℕ) (operations coordinates captions : Bor (List ℕ)) (out : MutBor (List ℕ)) (r : Bytes) (after : MutBor (List ℕ))
       → EncodeFrameCall.Learnt κs (d, (m, (ef, (seed, (metric, (sequence, (operations, (coordinates, (captions, (out, tt)))))))))) r
       (d, (m, (ef, (seed, (metric, (sequence, (operations, (coordinates, (captions, (after, tt))))))))))
       → DoorEncodeFrameMeets d m ef seed metric sequence operations.now coordinates.now captions.now out.now r after.now
   pub door_encode_frame_one_answer : (d m ef seed metric sequence : ℕ) (operations coordinates captions out : List ℕ)
       → OneEach (DoorEncodeFrameMeets d m ef seed metric sequence operations coordinates captions out)
-  pub door_encode_batch_contract : (κs : _) (d m ef seed metric sequence : ℕ) (operations coordinates captions out : Bor (List ℕ)) (r : Bytes) (after : Bor (List ℕ))
+  pub door_encode_batch_contract : (κs : _) (d m ef seed metric sequence : ℕ) (operations coordinates captions : Bor (List ℕ)) (out : MutBor (List ℕ)) (r : Bytes) (after : MutBor (List ℕ))
       → EncodeBatchCall.Learnt κs (d, (m, (ef, (seed, (metric, (sequence, (operations, (coordinates, (captions, (out, tt)))))))))) r
       (d, (m, (ef, (seed, (metric, (sequence, (operations, (coordinates, (captions, (after, tt))))))))))
       → DoorEncodeBatchMeets d m ef seed metric sequence operations.now coordinates.now captions.now out.now r after.now
   pub door_encode_batch_one_answer : (d m ef seed metric sequence : ℕ) (operations coordinates captions out : List ℕ)
       → OneEach (DoorEncodeBatchMeets d m ef seed metric sequence operations coordinates captions out)
-  pub door_first_line_contract : (κs : _) (sequence records active replayed skipped keep tail : ℕ) (out : Bor (List ℕ)) (r : Bytes) (after : Bor (List ℕ))
+  pub door_first_line_contract : (κs : _) (sequence records active replayed skipped keep tail : ℕ) (out : MutBor (List ℕ)) (r : Bytes) (after : MutBor (List ℕ))
       → FirstLineCall.Learnt κs (sequence, (records, (active, (replayed, (skipped, (keep, (tail, (out, tt)))))))) r
       (sequence, (records, (active, (replayed, (skipped, (keep, (tail, (after, tt))))))))
       → DoorFirstLineMeets sequence records active replayed skipped keep tail out.now r after.now
   pub door_first_line_one_answer : (sequence records active replayed skipped keep tail : ℕ) (out : List ℕ)
       → OneEach (DoorFirstLineMeets sequence records active replayed skipped keep tail out)
-  pub door_refusal_line_contract : (κs : _) (source number at : ℕ) (out : Bor (List ℕ)) (r : Bytes) (after : Bor (List ℕ))
+  pub door_refusal_line_contract : (κs : _) (source number at : ℕ) (out : MutBor (List ℕ)) (r : Bytes) (after : MutBor (List ℕ))
       → RefusalLineCall.Learnt κs (source, (number, (at, (out, tt)))) r (source, (number, (at, (after, tt)))) → DoorRefusalLineMeets source number at out.now r after.now
   pub door_refusal_line_one_answer : (source number at : ℕ) (out : List ℕ) → OneEach (DoorRefusalLineMeets source number at out)
-  pub door_node_line_contract : (κs : _) (snapshot log rows : Bor (List ℕ)) (count node d : ℕ) (out : Bor (List ℕ)) (r : Bytes) (after : Bor (List ℕ))
+  pub door_node_line_contract : (κs : _) (snapshot log rows : Bor (List ℕ)) (count node d : ℕ) (out : MutBor (List ℕ)) (r : Bytes) (after : MutBor (List ℕ))
       → NodeLineCall.Learnt κs (snapshot, (log, (rows, (count, (node, (d, (out, tt))))))) r (snapshot, (log, (rows, (count, (node, (d, (after, tt)))))))
       → DoorNodeLineMeets snapshot.now log.now rows.now count node d out.now r after.now
   pub door_node_line_one_answer : (snapshot log rows : List ℕ) (count node d : ℕ) (out : List ℕ) → OneEach (DoorNodeLineMeets snapshot log rows count node d out)

@@ -8,7 +8,7 @@
 -- `tree::mark`, `tree::put`, `tree::begin`: the links in the words; said are the rows, and what the tree finds
 -- `replay::apply_frame`: the tree likewise; after a refusal, what the tables hold
 use Rattle.std.specs.Prelude.{ℕ, ◌*◌, ◌≡◌, Bool, List, ◌∷◌, ◌++◌, length, take, drop, replicate}
-use Rattle.std.specs.Borrow.{Bor}
+use Rattle.std.specs.Borrow.{Bor, MutBor}
 use Rattle.refusal.specs.declared.Refusal.{Refusal}
 use Rattle.refusal.specs.declared.Measured.{Measured}
 use Rattle.refusal.specs.Refusal.{checked, measured}
@@ -110,16 +110,16 @@ pub record FieldsHelpers : Type 0 where
   pub get_u64_one_answer : (κs : _) (bytes : Bor (List ℕ)) (at : ℕ)
       → Gives (num bytes.now at 8) (λ r. GetU64Call.Learnt κs (bytes, (at, tt)) r (bytes, (at, tt)))
   -- put_u8(out, at, v)
-  pub put_u8_one_answer : (κs : _) (out : Bor (List ℕ)) (at v : ℕ)
+  pub put_u8_one_answer : (κs : _) (out : MutBor (List ℕ)) (at v : ℕ)
       → LentAfter (placed at (bytes 1 v) out.now) (λ after. PutU8Call.Learnt κs (out, (at, (v, tt))) tt (after, (at, (v, tt))))
   -- put_u32(out, at, v)
-  pub put_u32_one_answer : (κs : _) (out : Bor (List ℕ)) (at v : ℕ)
+  pub put_u32_one_answer : (κs : _) (out : MutBor (List ℕ)) (at v : ℕ)
       → LentAfter (placed at (bytes 4 v) out.now) (λ after. PutU32Call.Learnt κs (out, (at, (v, tt))) tt (after, (at, (v, tt))))
   -- put_u64(out, at, v)
-  pub put_u64_one_answer : (κs : _) (out : Bor (List ℕ)) (at v : ℕ)
+  pub put_u64_one_answer : (κs : _) (out : MutBor (List ℕ)) (at v : ℕ)
       → LentAfter (placed at (bytes 8 v) out.now) (λ after. PutU64Call.Learnt κs (out, (at, (v, tt))) tt (after, (at, (v, tt))))
   -- copy(out, source)
-  pub copy_one_answer : (κs : _) (out source : Bor (List ℕ))
+  pub copy_one_answer : (κs : _) (out : MutBor (List ℕ)) (source : Bor (List ℕ))
       → LentAfter (placed 0 source.now out.now) (λ after. CopyCall.Learnt κs (out, (source, tt)) tt (after, (source, tt)))
 
 -- ---- coordinates
@@ -138,7 +138,7 @@ pub record RowsHelpers : Type 0 where
   pub row_at_one_answer : (κs : _) (rows : Bor (List ℕ)) (node : Node)
       → Gives (row_at rows.now node.0) (λ r. RowAtCall.Learnt κs (rows, (node, tt)) r (rows, (node, tt)))
   -- set_row(rows, node, row)
-  pub set_row_one_answer : (κs : _) (rows : Bor (List ℕ)) (node : Node) (row : Row)
+  pub set_row_one_answer : (κs : _) (rows : MutBor (List ℕ)) (node : Node) (row : Row)
       → LentAfter (set_row rows.now node.0 row) (λ after. SetRowCall.Learnt κs (rows, (node, (row, tt))) tt (after, (node, (row, tt))))
   -- operation_at(words, i)
   pub operation_at_one_answer : (κs : _) (words : Bor (List ℕ)) (i : ℕ)
@@ -189,10 +189,10 @@ pub record ActivateMeets (rows : List ℕ) (count : ℕ) (entries : List ℕ) (r
   pub entries_are : entries' ≡ left_entries count rows entries
 
 pub record ActiveHelpers : Type 0 where
-  pub clear_contract : (κs : _) (rows entries rows' entries' : Bor (List ℕ)) → ClearCall.Learnt κs (rows, (entries, tt)) tt (rows', (entries', tt))
+  pub clear_contract : (κs : _) (rows entries rows' entries' : MutBor (List ℕ)) → ClearCall.Learnt κs (rows, (entries, tt)) tt (rows', (entries', tt))
       → ClearMeets rows.now entries.now rows'.now entries'.now
   pub clear_one_answer : (rows entries : List ℕ) → OneEach (ClearMeets rows entries)
-  pub activate_contract : (κs : _) (rows : Bor (List ℕ)) (count : ℕ) (entries : Bor (List ℕ)) (r : Measured) (rows' entries' : Bor (List ℕ))
+  pub activate_contract : (κs : _) (rows : MutBor (List ℕ)) (count : ℕ) (entries : MutBor (List ℕ)) (r : Measured) (rows' entries' : MutBor (List ℕ))
       → ActivateCall.Learnt κs (rows, (count, (entries, tt))) r (rows', (count, (entries', tt)))
       → ActivateMeets rows.now count entries.now r rows'.now entries'.now
   pub activate_one_answer : (rows : List ℕ) (count : ℕ) (entries : List ℕ) → OneOfThree (ActivateMeets rows count entries)
@@ -200,13 +200,13 @@ pub record ActiveHelpers : Type 0 where
 -- ---- frames
 pub record FramesHelpers : Type 0 where
   -- write_opcode(out, opcode, sequence)
-  pub write_opcode_one_answer : (κs : _) (out : Bor (List ℕ)) (opcode sequence : ℕ)
+  pub write_opcode_one_answer : (κs : _) (out : MutBor (List ℕ)) (opcode sequence : ℕ)
       → LentAfter (placed 0 (opcode ∷ bytes 8 sequence) out.now) (λ after. WriteOpcodeCall.Learnt κs (out, (opcode, (sequence, tt))) tt (after, (opcode, (sequence, tt))))
   -- write_delete(out, sequence, id)
-  pub write_delete_one_answer : (κs : _) (out : Bor (List ℕ)) (sequence id : ℕ)
+  pub write_delete_one_answer : (κs : _) (out : MutBor (List ℕ)) (sequence id : ℕ)
       → LentAfter (placed 0 (2 ∷ (bytes 8 sequence ++ bytes 8 id)) out.now) (λ after. WriteDeleteCall.Learnt κs (out, (sequence, (id, tt))) tt (after, (sequence, (id, tt))))
   -- seal(out, count)
-  pub seal_one_answer : (κs : _) (out : Bor (List ℕ)) (count : ℕ)
+  pub seal_one_answer : (κs : _) (out : MutBor (List ℕ)) (count : ℕ)
       → LentAfter (placed 0 (frame_bytes (part out.now frame_head count)) out.now) (λ after. SealCall.Learnt κs (out, (count, tt)) tt (after, (count, tt)))
   -- read_envelope(log, at)
   pub read_envelope_one_answer : (κs : _) (log : Bor (List ℕ)) (at : ℕ)
@@ -259,5 +259,5 @@ pub record TreeHelpers : Type 0 where
   -- no ID is live twice in a tree, which is what the call asks
   pub tree_find_one_answer : (words entries : List ℕ) (tree : Tree) (id : ℕ) → Grown tree words entries → One (FindMeets words entries tree id)
   -- finish(words, tree)
-  pub tree_finish_one_answer : (κs : _) (words : Bor (List ℕ)) (tree : Tree)
+  pub tree_finish_one_answer : (κs : _) (words : MutBor (List ℕ)) (tree : Tree)
       → LentAfter (take (2 * tree.count) (plain_rows words.now) ++ drop (2 * tree.count) words.now) (λ after. TreeFinishCall.Learnt κs (words, (tree, tt)) tt (after, (tree, tt)))

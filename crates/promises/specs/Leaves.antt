@@ -1,7 +1,7 @@
 -- The leaves' calls that ask nothing of a caller, each told as `OneAnswer` says.
 use Rattle.std.specs.Prelude.{ℕ, ◌*◌, ◌%◌, ◌^◌, ◌≤◌, ◌≡◌, Bool, List, length, replicate}
 use Rattle.std.specs.Int.Bits.{bit_xor}
-use Rattle.std.specs.Borrow.{Bor}
+use Rattle.std.specs.Borrow.{Bor, MutBor}
 use Rattle.refusal.specs.declared.Refusal.{Refusal}
 use Rattle.refusal.specs.Refusal.{number, checked}
 use Rattle.crc32.specs.Crc.{all_ones, bytes_in, crc_of}
@@ -144,10 +144,10 @@ pub record FieldsCalls : Type 0 where
   pub read_u64_one_answer : (κs : _) (bytes : Bor (List ℕ)) (at : ℕ)
       → Gives (field64 bytes.now at) (λ r. ReadU64Call.Learnt κs (bytes, (at, tt)) r (bytes, (at, tt)))
   -- fill_zero64(words): what was lent, after
-  pub fill_zero64_one_answer : (κs : _) (words : Bor (List ℕ))
+  pub fill_zero64_one_answer : (κs : _) (words : MutBor (List ℕ))
       → LentAfter (replicate (length words.now) 0) (λ after. FillZero64Call.Learnt κs (words, tt) tt (after, tt))
   -- fill_zero32(entries): what was lent, after
-  pub fill_zero32_one_answer : (κs : _) (entries : Bor (List ℕ))
+  pub fill_zero32_one_answer : (κs : _) (entries : MutBor (List ℕ))
       → LentAfter (replicate (length entries.now) 0) (λ after. FillZero32Call.Learnt κs (entries, tt) tt (after, tt))
 
 -- ---- coordinates

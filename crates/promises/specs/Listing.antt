@@ -1,6 +1,6 @@
 -- The calls that write the listing's lines, as `Store` has its calls; and what an answer of `recover` is listed as.
 use Rattle.std.specs.Prelude.{ℕ, ◌≤◌, ◌≡◌, List, [], ◌++◌, length, take, drop}
-use Rattle.std.specs.Borrow.{Bor}
+use Rattle.std.specs.Borrow.{Bor, MutBor}
 use Rattle.refusal.specs.declared.Refusal.{Refusal}
 use Rattle.refusal.specs.declared.Written.{Written}
 use Rattle.refusal.specs.declared.Written.TheVariants as Writes
@@ -18,7 +18,6 @@ use Rattle.listing_text.specs.Listing.{answer_line, node_lines, listing_text, fi
 use Rattle.listing_text.specs.Files.{listing_file_limit, listing_rows, found, listing_of}
 use Rattle.listing_text.specs.declared.Heading.{Heading}
 use Rattle.listing_text.specs.declared.Stopped.{Stopped}
-use Rattle.listing_text.specs.declared.Stopped.TheVariants as Stops
 use Rattle.listing_text.proofs.first_line.Reads as FirstLineCall
 use Rattle.listing_text.proofs.refusal_line.Reads as RefusalLineCall
 use Rattle.listing_text.proofs.number_line.Reads as NumberLineCall
@@ -74,22 +73,22 @@ pub record LineLeft (line : List ℕ) (n : ℕ) (out after : List ℕ) : Type 0 
   pub rest_untouched : drop n after ≡ drop n out
 
 pub record ListingCalls : Type 0 where
-  pub first_line_contract : (κs : _) (heading : Heading) (out : Bor (List ℕ)) (r : Written) (after : Bor (List ℕ))
+  pub first_line_contract : (κs : _) (heading : Heading) (out : MutBor (List ℕ)) (r : Written) (after : MutBor (List ℕ))
       → FirstLineCall.Learnt κs (heading, (out, tt)) r (heading, (after, tt)) → FirstLineMeets heading out.now r after.now
   pub first_line_one_answer : (heading : Heading) (out : List ℕ) → OneEach (FirstLineMeets heading out)
-  pub refusal_line_contract : (κs : _) (stopped : Stopped) (out : Bor (List ℕ)) (r : Written) (after : Bor (List ℕ))
+  pub refusal_line_contract : (κs : _) (stopped : Stopped) (out : MutBor (List ℕ)) (r : Written) (after : MutBor (List ℕ))
       → RefusalLineCall.Learnt κs (stopped, (out, tt)) r (stopped, (after, tt)) → RefusalLineMeets stopped out.now r after.now
   pub refusal_line_one_answer : (stopped : Stopped) (out : List ℕ) → OneEach (RefusalLineMeets stopped out)
-  pub number_line_contract : (κs : _) (words : Bor (List ℕ)) (n : ℕ) (out : Bor (List ℕ)) (r : Written) (after : Bor (List ℕ))
+  pub number_line_contract : (κs : _) (words : Bor (List ℕ)) (n : ℕ) (out : MutBor (List ℕ)) (r : Written) (after : MutBor (List ℕ))
       → NumberLineCall.Learnt κs (words, (n, (out, tt))) r (words, (n, (after, tt))) → NumberLineMeets words.now n out.now r after.now
   pub number_line_one_answer : (words : List ℕ) (n : ℕ) (out : List ℕ) → OneEach (NumberLineMeets words n out)
-  pub log_line_contract : (κs : _) (number at : ℕ) (out : Bor (List ℕ)) (r : Written) (after : Bor (List ℕ))
+  pub log_line_contract : (κs : _) (number at : ℕ) (out : MutBor (List ℕ)) (r : Written) (after : MutBor (List ℕ))
       → LogLineCall.Learnt κs (number, (at, (out, tt))) r (number, (at, (after, tt))) → LogLineMeets number at out.now r after.now
   pub log_line_one_answer : (number at : ℕ) (out : List ℕ) → OneEach (LogLineMeets number at out)
-  pub answer_line_contract : (κs : _) (answer : Recovery) (out : Bor (List ℕ)) (r : Written) (after : Bor (List ℕ))
+  pub answer_line_contract : (κs : _) (answer : Recovery) (out : MutBor (List ℕ)) (r : Written) (after : MutBor (List ℕ))
       → AnswerLineCall.Learnt κs (answer, (out, tt)) r (answer, (after, tt)) → AnswerLineMeets answer out.now r after.now
   pub answer_line_one_answer : (answer : Recovery) (out : List ℕ) → OneEach (AnswerLineMeets answer out)
-  pub node_line_contract : (κs : _) (snapshot log rows : Bor (List ℕ)) (count : ℕ) (node : Node) (d : ℕ) (out : Bor (List ℕ)) (r : Written) (after : Bor (List ℕ))
+  pub node_line_contract : (κs : _) (snapshot log rows : Bor (List ℕ)) (count : ℕ) (node : Node) (d : ℕ) (out : MutBor (List ℕ)) (r : Written) (after : MutBor (List ℕ))
       → NodeLineCall.Learnt κs (snapshot, (log, (rows, (count, (node, (d, (out, tt))))))) r (snapshot, (log, (rows, (count, (node, (d, (after, tt)))))))
       → NodeLineMeets snapshot.now log.now rows.now count node d out.now r after.now
   pub node_line_one_answer : (snapshot log rows : List ℕ) (count : ℕ) (node : Node) (d : ℕ) (out : List ℕ)

@@ -1,9 +1,9 @@
 -- A contract leaves nothing to choose: two answers that it permits are the same, and so is what they leave in lent memory.
--- A call whose contract is one equation has a statement `…-one-answer`, by `Gives` or `LentAfter`. Of another call, or of one that other
--- statements speak of: `…Meets` is what its contract says of a result and of what was lent, in the contract's own words; `…-contract`:
--- what a caller learns from the contract in the source is this; `…-one-answer`: nothing is left to choose.
+-- A call whose contract is one equation has a statement `…_one_answer`, by `Gives` or `LentAfter`. Of another call, or of one that other
+-- statements speak of: `…Meets` is what its contract says of a result and of what was lent, in the contract's own words; `…_contract`:
+-- what a caller learns from the contract in the source is this; `…_one_answer`: nothing is left to choose.
 use Rattle.std.specs.Prelude.{◌≡◌, List, ℕ}
-use Rattle.std.specs.Borrow.{Bor}
+use Rattle.std.specs.Borrow.{Bor, MutBor}
 
 -- one thing: a result, or what was lent, after
 abbrev pub One : {A : Type 0} → (A → Type 0) → Type 0
@@ -26,6 +26,6 @@ pub record Gives {A : Type 0} (meant : A) (Learnt : A → Type 0) : Type 0 where
   pub one_answer : One Learnt
 
 -- the same of what was lent, after
-pub record LentAfter (meant : List ℕ) (Learnt : Bor (List ℕ) → Type 0) : Type 0 where
-  pub contract : (after : Bor (List ℕ)) → Learnt after → after.now ≡ meant
-  pub one_answer : (x y : Bor (List ℕ)) → Learnt x → Learnt y → x.now ≡ y.now
+pub record LentAfter (meant : List ℕ) (Learnt : MutBor (List ℕ) → Type 0) : Type 0 where
+  pub contract : (after : MutBor (List ℕ)) → Learnt after → after.now ≡ meant
+  pub one_answer : (x y : MutBor (List ℕ)) → Learnt x → Learnt y → x.now ≡ y.now

@@ -1,6 +1,6 @@
 -- The call `recover`, told as `OneAnswer` says; and what an answer shows with the row words beside it.
 use Rattle.std.specs.Prelude.{ℕ, ◌+◌, ◌≡◌, List, map}
-use Rattle.std.specs.Borrow.{Bor}
+use Rattle.std.specs.Borrow.{Bor, MutBor}
 use Rattle.rows.specs.Lent.{rows_lent}
 use Rattle.meaning.specs.Records.{Record, seen}
 use Rattle.meaning.specs.Recovery.{Recovered}
@@ -21,7 +21,7 @@ pub record RecoverMeets (snapshot log rows active : List ℕ) (r : Recovery) (ro
   pub active_is : active' ≡ (recover_tables rows active (recover_call rows active snapshot log)).active
 
 pub record RecoverCalls : Type 0 where
-  pub recover_contract : (κs : _) (snapshot log rows active : Bor (List ℕ)) (r : Recovery) (rows' active' : Bor (List ℕ))
+  pub recover_contract : (κs : _) (snapshot log : Bor (List ℕ)) (rows active : MutBor (List ℕ)) (r : Recovery) (rows' active' : MutBor (List ℕ))
       → RecoverCall.Learnt κs (snapshot, (log, (rows, (active, tt)))) r (snapshot, (log, (rows', (active', tt))))
       → RecoverMeets snapshot.now log.now rows.now active.now r rows'.now active'.now
   pub recover_one_answer : (snapshot log rows active : List ℕ) → OneOfThree (RecoverMeets snapshot log rows active)

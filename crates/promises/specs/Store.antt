@@ -1,7 +1,7 @@
 -- The store's calls, each told as `OneAnswer` says: reading a snapshot, lookup and views, the two writers, the two encoders, a frame of a
--- log. A view is a slice: its bytes, and the place of the first (`ptr`).
+-- log. A view is a slice: its bytes, and the place of the first (`ref_ptr`).
 use Rattle.std.specs.Prelude.{ℕ, ◌≡◌, List}
-use Rattle.std.specs.Borrow.{Bor}
+use Rattle.std.specs.Borrow.{Bor, MutBor}
 use Rattle.refusal.specs.declared.Written.{Written}
 use Rattle.refusal.specs.Refusal.{number_told, written_told}
 use Rattle.config.specs.declared.Config.{Config}
@@ -49,7 +49,7 @@ pub record SnapshotCalls : Type 0 where
   -- read_header(bytes)
   pub read_header_one_answer : (κs : _) (bytes : Bor (List ℕ))
       → Gives (header_told (read_header bytes.now)) (λ r. ReadHeaderCall.Learnt κs (bytes, tt) r (bytes, tt))
-  pub read_snapshot_contract : (κs : _) (bytes rows active : Bor (List ℕ)) (r : ReadSnapshot) (rows' active' : Bor (List ℕ))
+  pub read_snapshot_contract : (κs : _) (bytes : Bor (List ℕ)) (rows active : MutBor (List ℕ)) (r : ReadSnapshot) (rows' active' : MutBor (List ℕ))
       → ReadSnapshotCall.Learnt κs (bytes, (rows, (active, tt))) r (bytes, (rows', (active', tt)))
       → ReadSnapshotMeets bytes.now rows.now active.now r rows'.now active'.now
   pub read_snapshot_one_answer : (bytes rows active : List ℕ) → OneOfThree (ReadSnapshotMeets bytes rows active)
@@ -105,12 +105,12 @@ pub record WriteCompactedMeets (config : Config) (sequence : ℕ) (rows : List �
   pub output_is : after ≡ output_after out (write_call Compacted config sequence rows count snapshot log out)
 
 pub record WriterCalls : Type 0 where
-  pub write_contract : (κs : _) (config : Config) (sequence : ℕ) (rows : Bor (List ℕ)) (count : ℕ) (snapshot log out : Bor (List ℕ)) (r : Written) (after : Bor (List ℕ))
+  pub write_contract : (κs : _) (config : Config) (sequence : ℕ) (rows : Bor (List ℕ)) (count : ℕ) (snapshot log : Bor (List ℕ)) (out : MutBor (List ℕ)) (r : Written) (after : MutBor (List ℕ))
       → WriteCall.Learnt κs (config, (sequence, (rows, (count, (snapshot, (log, (out, tt))))))) r (config, (sequence, (rows, (count, (snapshot, (log, (after, tt)))))))
       → WriteMeets config sequence rows.now count snapshot.now log.now out.now r after.now
   pub write_one_answer : (config : Config) (sequence : ℕ) (rows : List ℕ) (count : ℕ) (snapshot log out : List ℕ)
       → OneEach (WriteMeets config sequence rows count snapshot log out)
-  pub write_compacted_contract : (κs : _) (config : Config) (sequence : ℕ) (rows : Bor (List ℕ)) (count : ℕ) (snapshot log out : Bor (List ℕ)) (r : Written) (after : Bor (List ℕ))
+  pub write_compacted_contract : (κs : _) (config : Config) (sequence : ℕ) (rows : Bor (List ℕ)) (count : ℕ) (snapshot log : Bor (List ℕ)) (out : MutBor (List ℕ)) (r : Written) (after : MutBor (List ℕ))
       → WriteCompactedCall.Learnt κs (config, (sequence, (rows, (count, (snapshot, (log, (out, tt))))))) r (config, (sequence, (rows, (count, (snapshot, (log, (after, tt)))))))
       → WriteCompactedMeets config sequence rows.now count snapshot.now log.now out.now r after.now
   pub write_compacted_one_answer : (config : Config) (sequence : ℕ) (rows : List ℕ) (count : ℕ) (snapshot log out : List ℕ)
@@ -128,12 +128,12 @@ pub record EncodeBatchMeets (config : Config) (sequence : ℕ) (operations coord
   pub output_is : after ≡ output_after out (encode_call Batch config sequence operations coordinates captions out)
 
 pub record EncoderCalls : Type 0 where
-  pub encode_frame_contract : (κs : _) (config : Config) (sequence : ℕ) (operations coordinates captions out : Bor (List ℕ)) (r : Written) (after : Bor (List ℕ))
+  pub encode_frame_contract : (κs : _) (config : Config) (sequence : ℕ) (operations coordinates captions : Bor (List ℕ)) (out : MutBor (List ℕ)) (r : Written) (after : MutBor (List ℕ))
       → EncodeFrameCall.Learnt κs (config, (sequence, (operations, (coordinates, (captions, (out, tt)))))) r (config, (sequence, (operations, (coordinates, (captions, (after, tt))))))
       → EncodeFrameMeets config sequence operations.now coordinates.now captions.now out.now r after.now
   pub encode_frame_one_answer : (config : Config) (sequence : ℕ) (operations coordinates captions out : List ℕ)
       → OneEach (EncodeFrameMeets config sequence operations coordinates captions out)
-  pub encode_batch_contract : (κs : _) (config : Config) (sequence : ℕ) (operations coordinates captions out : Bor (List ℕ)) (r : Written) (after : Bor (List ℕ))
+  pub encode_batch_contract : (κs : _) (config : Config) (sequence : ℕ) (operations coordinates captions : Bor (List ℕ)) (out : MutBor (List ℕ)) (r : Written) (after : MutBor (List ℕ))
       → EncodeBatchCall.Learnt κs (config, (sequence, (operations, (coordinates, (captions, (out, tt)))))) r (config, (sequence, (operations, (coordinates, (captions, (after, tt))))))
       → EncodeBatchMeets config sequence operations.now coordinates.now captions.now out.now r after.now
   pub encode_batch_one_answer : (config : Config) (sequence : ℕ) (operations coordinates captions out : List ℕ)

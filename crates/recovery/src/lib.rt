@@ -23,10 +23,10 @@ ghost use Rattle.recovery.specs.Told.{recovery_answer, recovered_told};
 ghost use Rattle.recovery.specs.Run.{run_from, skipped_only, SkipsTo, state_of, Steps, Reaches, Left, SomeLeft, snapshot_read, ends_in, RecoversAs};
 
 use config::Config;
-use store_log::{Frame, ReadFrame};
 use refusal::{Measured, Refusal};
 use replay::{Applied, Table};
 use snapshot::{ReadSnapshot, SnapshotInfo};
+use store_log::{Frame, ReadFrame};
 
 // `keep` is the first byte of the tail, `tail` its length, `size` the encoded size of all records.
 #[derive(Clone, Copy)]

@@ -21,9 +21,9 @@ ghost use Rattle.replay.specs.Stands.{TableStands, Kept, TakenOut, Applicable, n
 
 use config::Config;
 use layout::Shape;
-use store_log::{Frame, ReadOperation};
 use refusal::Refusal;
 use rows::{Id, Row};
+use store_log::{Frame, ReadOperation};
 use tree::Tree;
 
 // What replay keeps of the rows beside lent memory: the tree that finds them, and their encoded size.

@@ -130,6 +130,7 @@ fn check_operations(config: Config, log: &[u8], end: usize, n: usize, at: usize)
 }
 
 // 25, then the operations. The count's field is there.
+#[tactic(auto, unfolding(meaning::specs::Log::batch_at))]
 fn check_batch(config: Config, log: &[u8], end: usize, at: usize) -> Measured
     requires dimensions_le_max_dimensions { config.dimensions ≤ max_dimensions }
     requires end_in_bounds { end ≤ length log.now }

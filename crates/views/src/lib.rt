@@ -12,7 +12,7 @@ ghost use Rattle.sources.specs.declared.Shown.TheVariants.{Caption, Vector};
 ghost use Rattle.meaning.specs.Replay.{live_as};
 ghost use Rattle.meaning.specs.Records.{row_kind};
 ghost use Rattle.meaning.specs.Tables.{rows_in};
-ghost use Rattle.meaning.specs.Views.{find_from, lookup as lookupOf, row_for, part_for, view as view_of, given};
+ghost use Rattle.meaning.specs.Views.{find_from, lookup as lookup_of, row_for, part_for, view as view_of, given};
 ghost use Rattle.views.specs.Told.{found, found_told, named, viewed};
 
 use config::Config;
@@ -74,7 +74,7 @@ fn find(rows: &[u64], count: usize, id: Id) -> Found
 
 // The lowest live node of an ID below the count.
 pub fn lookup(rows: &[u64], count: usize, id: Id) -> Found
-    ensures { result ≡ found_told (lookupOf rows.now count id.0) }
+    ensures { result ≡ found_told (lookup_of rows.now count id.0) }
 {
     if rows::rows_lent_plain(rows) < count {
         return Found::Refused(Refusal::NoSuchNode);

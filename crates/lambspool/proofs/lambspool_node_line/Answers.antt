@@ -1,0 +1,11 @@
+-- What `node_line` answers, said.
+use mathlib.Core.Path.{ap, ◌∙◌}
+use Rattle.lambspool.specs.Said.{bytes_said}
+use Rattle.lambspool.proofs.lambspool_node_line.Goals as goal
+
+pub returns : goal.returns
+returns c = let r = c.node_line.ensures in
+    record {
+      value = c.bytes_said.ensures ∙ ap bytes_said r.value;
+      out_after = r.out_after;
+    }

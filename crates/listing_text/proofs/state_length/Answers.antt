@@ -1,0 +1,11 @@
+-- `state_length` adds up the words and the digits.
+use native.Mathlib.Omega.{arith}
+use Rattle.listing_text.proofs.LineLaws.{length_state}
+use Rattle.listing_text.proofs.state_length.Goals as goal
+
+pub returns : goal.returns
+returns c = let l = length_state c.args.h in
+    record {
+      value = omega (arith, l);
+      upper_bound = omega arith;
+    }
