@@ -1,14 +1,12 @@
--- The two parts of the room that are recovered are the files that were found there; and how many nodes are shown.
-use Prim.Native.Nat.{ℕ, ◌≤◌, ◌<◌}
-use mathlib.Core.Path.{◌≡◌, sym, ap, ap₂, subst, ◌∙◌}
-use mathlib.Core.Bool.{Bool, cond}
-use mathlib.Core.List.{List}
-use lib.ListN.{take, drop}
-use borrow.Author.Tests.{lt-ltb, le-ltb}
-use Rattle.rows.specs.Lent.{rows_lent_plain}
+-- The two parts of the room that are recovered are the files that were found there.
+use Rattle.std.proofs.Common.{arith, ℕ, ◌+◌, ◌-◌, ◌≡◌, ap₂, subst, List, take, drop}
+use Rattle.rows.specs.Lent.{rows_lent}
+use Rattle.meaning.specs.Calls.{recover_call, recover_tables}
+use Rattle.recovery.specs.Told.{recovery_answer}
+use Rattle.listing_text.specs.Files.{listing_rows}
 use Rattle.recovery.specs.declared.Recovery.{Recovery}
 use Rattle.listing.specs.declared.Found.{Found}
-use Rattle.listing.specs.Shown.{log_at, file_in, Recovers, nodes_listed}
+use Rattle.listing.specs.Shown.{log_at, file_in, Recovers}
 
 -- n bytes from byte k on
 abbrev part : ℕ → ℕ → List ℕ → List ℕ
@@ -20,8 +18,11 @@ in_room room s l m n answer words e f g h r =
     subst (λ (x : List ℕ). Recovers x (file_in l room) answer words) (ap₂ (λ (i j : ℕ). part i j room) e f)
     (subst (λ (x : List ℕ). Recovers (part m 0 room) x answer words) (ap₂ (λ (i j : ℕ). part i j room) g h) r)
 
-pub none_listed : (records : ℕ) (words : List ℕ) (n : ℕ) → n ≡ 0 → rows_lent_plain words < records → n ≡ nodes_listed records words
-none_listed records words n e h = e ∙ sym (ap (λ (t : Bool). cond t 0 records) (lt-ltb (rows_lent_plain words) records h))
-
-pub all_listed : (records : ℕ) (words : List ℕ) (n : ℕ) → n ≡ records → records ≤ rows_lent_plain words → n ≡ nodes_listed records words
-all_listed records words n e h = e ∙ sym (ap (λ (t : Bool). cond t 0 records) (le-ltb (rows_lent_plain words) records h))
+-- `recover`, handed what was found in the room, recovers the two files.
+pub recovers_in_room : (room : List ℕ) (s l : Found) (rows active : List ℕ) (answer : Recovery) (words : List ℕ) → 0 ≡ s.at → log_at ≡ l.at → rows_lent rows active ≡ listing_rows
+    → answer ≡ recovery_answer (part (log_at + l.bytes - log_at) log_at room) (recover_call rows active (part (s.bytes - 0) 0 room) (part (log_at + l.bytes - log_at) log_at room))
+    → words ≡ (recover_tables rows active (recover_call rows active (part (s.bytes - 0) 0 room) (part (log_at + l.bytes - log_at) log_at room))).rows
+    → Recovers (file_in s room) (file_in l room) answer words
+recovers_in_room room s l rows active answer words hs hl lent told left =
+    in_room room s l (s.bytes - 0) (log_at + l.bytes - log_at) answer words (omega arith) hs (omega arith) hl
+    (record { rows = rows; active = active; as_many = lent; answer_is = told; words_are = left })

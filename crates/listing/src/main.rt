@@ -14,11 +14,13 @@ ghost use Rattle.listing_text.specs.Listing.{refusal_line_call, answer_line_call
 ghost use Rattle.listing_text.specs.declared.Stopped.TheVariants.{File};
 ghost use Rattle.listing.specs.Shown.{log_at, name_at, file_in, Recovers, Made, nodes_listed, Listed};
 
-use libc::STDOUT_FILENO;
 use listing_text::Stopped;
 use recovery::{Recovery, RecoveryInfo};
 use refusal::Written;
 use rows::Node;
+use std::fs;
+use std::io::Read;
+use std::rt::Files;
 
 const FILE_LIMIT: usize = 65536;
 
@@ -31,15 +33,21 @@ struct Found {
 }
 
 // One room holds both files: the snapshot from its first byte on, the log from its second half on.
-fn main() {
+fn main(rt: HostRuntime) {
     let mut room = [0u8; 131072];
     let mut rows = [0u64; 8192];
     let mut active = [0u32; 4096];
-    let mut line = io::large_buffer();
-    list(&mut room, &mut rows, &mut active, &mut line);
+    let mut line = [0u8; 65536];
+    list(&rt, &mut room, &mut rows, &mut active, &mut line);
 }
 
-fn list(room: &mut [u8], rows: &mut [u64], active: &mut [u32], line: &mut [u8])
+fn list(
+    rt: &(impl Files + Print),
+    room: &mut [u8],
+    rows: &mut [u64],
+    active: &mut [u32],
+    line: &mut [u8],
+)
     requires room_len { length room.old ≡ 2 * listing_file_limit }
     requires rows_len { length rows.old ≡ 2 * listing_rows }
     requires active_len { length active.old ≡ listing_rows }
@@ -47,51 +55,62 @@ fn list(room: &mut [u8], rows: &mut [u64], active: &mut [u32], line: &mut [u8])
 {
     // The log first: a store in use writes its snapshot and then empties its log, and an old snapshot beside an emptied log would miss
     // changes without a sign.
-    let log = read(b"wal.bin", room, FILE_LIMIT);
-    let snapshot = read(b"snapshot.bin", room, 0);
+    let log = read(rt, "wal.bin", room, FILE_LIMIT);
+    let snapshot = read(rt, "snapshot.bin", room, 0);
     if FILE_LIMIT < snapshot.bytes {
-        refuse_file(line);
+        refuse_file(rt, line);
         return;
     }
     if FILE_LIMIT < log.bytes {
-        refuse_file(line);
+        refuse_file(rt, line);
         return;
     }
-    list_store(room, snapshot, log, rows, active, line);
+    list_store(rt, room, snapshot, log, rows, active, line);
 }
 
-fn read(name: &[u8], room: &mut [u8], at: usize) -> Found
+fn read(rt: &impl Files, name: &str, room: &mut [u8], at: usize) -> Found
     requires name_value { name.now ≡ name_at at }
     requires listing_file_limit_in_bounds { at + listing_file_limit ≤ length room.old }
     ensures at_value { result.at ≡ at }
     ensures room_len_unchanged { length room.new ≡ length room.old }
 {
-    let bytes = read_to(name, room, at);
+    let bytes = read_to(rt, name, room, at);
     Found { at, bytes }
 }
 
-fn read_to(name: &[u8], room: &mut [u8], at: usize) -> usize
+fn read_to(rt: &impl Files, name: &str, room: &mut [u8], at: usize) -> usize
     requires name_value { name.now ≡ name_at at }
     requires listing_file_limit_in_bounds { at + listing_file_limit ≤ length room.old }
     ensures { length room.new ≡ length room.old }
 {
-    let fd = os::open_read(name);
-    if fd < 0 {
+    let Ok(mut file) = fs::open(rt, name) else {
         return FILE_LIMIT + 1;
+    };
+    let n = read_full(&mut file, &mut room[at..at + FILE_LIMIT]);
+    if ended(&mut file) { n } else { FILE_LIMIT + 1 }
+}
+
+// Reads until the room is full, the file ends or a read fails; how many bytes it put there.
+fn read_full(file: &mut impl Read, room: &mut [u8]) -> usize {
+    let mut done = 0;
+    while done < room.len() {
+        match file.read(&mut room[done..]) {
+            Ok(0) => return done,
+            Ok(n) => done += n,
+            Err(_) => return done,
+        }
     }
-    let n = io::read_full(fd, &mut room[at..at + FILE_LIMIT]);
-    let whole = ended(fd);
-    libc::close(fd);
-    if whole { n } else { FILE_LIMIT + 1 }
+    done
 }
 
 // Whether a read finds the file at its end.
-fn ended(fd: i32) -> bool {
+fn ended(file: &mut impl Read) -> bool {
     let mut more = [0u8; 1];
-    libc::read(fd, &mut more) == 0
+    matches!(file.read(&mut more), Ok(0))
 }
 
 fn list_store(
+    rt: &impl Print,
     room: &[u8],
     snapshot: Found,
     log: Found,
@@ -115,9 +134,9 @@ fn list_store(
     let of_log = &room[FILE_LIMIT..FILE_LIMIT + b];
     let answer = recovery::recover(of_snapshot, of_log, rows, active);
     let written = listing_text::answer_line(answer, line);
-    let next = show_answer(room, snapshot, log, answer, rows, written, line);
+    let next = show_answer(rt, room, snapshot, log, answer, rows, written, line);
     match answer {
-        Recovery::Recovered(info) => list_nodes(of_snapshot, of_log, info, rows, next, line),
+        Recovery::Recovered(info) => list_nodes(rt, of_snapshot, of_log, info, rows, next, line),
         Recovery::RefusedSnapshot(_) => next,
         Recovery::RefusedLog(_, _) => next,
     }
@@ -125,6 +144,7 @@ fn list_store(
 
 // Each node from the first on; the node that would come next. No more than the rows lent: beyond them every node is refused by 30.
 fn list_nodes<'a>(
+    rt: &impl Print,
     snapshot: &'a [u8],
     log: &'a [u8],
     info: RecoveryInfo,
@@ -152,26 +172,27 @@ fn list_nodes<'a>(
             info.config.dimensions,
             line,
         );
-        i = show_node(snapshot, log, info, rows, node, written, line);
+        i = show_node(rt, snapshot, log, info, rows, node, written, line);
     }
     i
 }
 
-fn refuse_file(line: &mut [u8])
+fn refuse_file(rt: &impl Print, line: &mut [u8])
     requires { longest_line ≤ length line.old }
 {
     let written = listing_text::refusal_line(Stopped::File, line);
-    show_file(written, line);
+    show_file(rt, written, line);
 }
 
 // ---- what may be shown; each answers the node that comes next
-fn show_file(written: Written, line: &[u8])
+fn show_file(rt: &impl Print, written: Written, line: &[u8])
     requires { Made (refusal_line_call File) written line.now }
 {
-    show(written, line);
+    show(rt, written, line);
 }
 
 fn show_answer(
+    rt: &impl Print,
     room: &[u8],
     snapshot: Found,
     log: Found,
@@ -184,11 +205,12 @@ fn show_answer(
     requires made { Made (answer_line_call answer) written line.now }
     ensures { result ≡ 0 }
 {
-    show(written, line);
+    show(rt, written, line);
     0
 }
 
 fn show_node(
+    rt: &impl Print,
     snapshot: &[u8],
     log: &[u8],
     info: RecoveryInfo,
@@ -201,20 +223,21 @@ fn show_node(
     requires made { Made (node_line_call info.config.dimensions rows.now info.records node.0 snapshot.now log.now) written line.now }
     ensures { result ≡ node.0 + 1 }
 {
-    show(written, line);
+    show(rt, written, line);
     node.0 as usize + 1
 }
 
-// The bytes that a call wrote at the front of the line.
-fn show(written: Written, line: &[u8]) {
+// The bytes that a call wrote at the front of the line. A write that fails is not seen here: whoever runs the program sees it
+// (the script `list`).
+fn show(rt: &impl Print, written: Written, line: &[u8]) {
     match written {
-        Written::Bytes(n) => show_front(line, n),
+        Written::Bytes(n) => show_front(rt, line, n),
         Written::Refused(_) => {}
     }
 }
 
-fn show_front(line: &[u8], n: usize) {
+fn show_front(rt: &impl Print, line: &[u8], n: usize) {
     if n <= line.len() {
-        io::write_all(STDOUT_FILENO, &line[0..n]);
+        let _ = rt.write_all(&line[0..n]);
     }
 }

@@ -2,7 +2,8 @@
 // in docs/QUESTIONS.md; what is more is answered by `too large`, and ends the run, as does a request that is cut short.
 #![tactic(auto)]
 
-use libc::{STDIN_FILENO, STDOUT_FILENO};
+use std::io;
+use std::io::{ErrorKind, Read};
 
 #[derive(Clone, Copy)]
 enum Length {
@@ -10,76 +11,90 @@ enum Length {
     End,
 }
 
-fn main() {
-    let mut request = io::large_buffer();
+fn main(rt: HostRuntime) -> io::Result<()> {
+    let mut request = [0u8; 65536];
     let mut words = [0u64; 12288];
     let mut coordinates = [0u32; 16384];
-    let mut output = io::large_buffer();
+    let mut output = [0u8; 65536];
     let mut answer = [0u8; 262144];
     answer_all(
+        &rt,
         &mut request,
         &mut words,
         &mut coordinates,
         &mut output,
         &mut answer,
-    );
+    )
 }
 
-// Nothing says that the input ends, so the turns are counted down from a number that no run uses up.
+// Nothing says that the input ends, so the turns are counted, up to a number that no run uses up.
 fn answer_all(
+    rt: &(impl Input + Print),
     request: &mut [u8],
     words: &mut [u64],
     coordinates: &mut [u32],
     output: &mut [u8],
     answer: &mut [u8],
-) {
-    let mut turns = u64::MAX;
-    while 0 < turns {
-        if !answer_next(request, words, coordinates, output, answer) {
-            return;
+) -> io::Result<()> {
+    let mut input = rt.reader();
+    for _ in 0..u64::MAX {
+        if !answer_next(rt, &mut input, request, words, coordinates, output, answer)? {
+            return Ok(());
         }
-        turns -= 1;
     }
+    Ok(())
 }
 
 // Whether to go on.
 fn answer_next(
+    rt: &impl Print,
+    input: &mut impl Read,
     request: &mut [u8],
     words: &mut [u64],
     coordinates: &mut [u32],
     output: &mut [u8],
     answer: &mut [u8],
-) -> bool {
-    let n = match next_length() {
+) -> io::Result<bool> {
+    let n = match next_length(input)? {
         Length::Bytes(n) => n,
-        Length::End => return false,
+        Length::End => return Ok(false),
     };
     if request.len() < n {
-        return too_large();
+        return too_large(rt);
     }
-    if io::read_full(STDIN_FILENO, &mut request[0..n]) != n {
-        return false;
+    if !read_full(input, &mut request[0..n])? {
+        return Ok(false);
     }
     let text = answers::answer_request(&request[0..n], words, coordinates, output, answer);
     if text == 0 {
-        return too_large();
+        return too_large(rt);
     }
-    io::write_all(STDOUT_FILENO, &answer[0..text])
+    rt.write_all(&answer[0..text])?;
+    Ok(true)
 }
 
-fn too_large() -> bool {
-    io::write_all(STDOUT_FILENO, b"too large\n.\n");
-    false
+fn too_large(rt: &impl Print) -> io::Result<bool> {
+    print!(rt; "too large\n.\n")?;
+    Ok(false)
 }
 
-fn next_length() -> Length {
+fn next_length(input: &mut impl Read) -> io::Result<Length> {
     let mut head = [0u8; 4];
-    if io::read_full(STDIN_FILENO, &mut head) != 4 {
-        return Length::End;
+    if !read_full(input, &mut head)? {
+        return Ok(Length::End);
     }
     let low = wide(head[0]) + wide(head[1]) * 256;
     let high = wide(head[2]) + wide(head[3]) * 256;
-    Length::Bytes(low + high * 65536)
+    Ok(Length::Bytes(low + high * 65536))
+}
+
+// Whether the input had as many bytes.
+fn read_full(input: &mut impl Read, buf: &mut [u8]) -> io::Result<bool> {
+    match input.read_exact(buf) {
+        Ok(()) => Ok(true),
+        Err(e) if e.kind() == ErrorKind::UnexpectedEof => Ok(false),
+        Err(e) => Err(e),
+    }
 }
 
 fn wide(b: u8) -> usize

@@ -5,6 +5,8 @@
 ghost use Rattle.std.specs.Prelude.{◌≡◌, ℕ, ◌<◌, ◌≤◌, length, get_or};
 ghost use Rattle.sorting.specs.Sorting.{InRows, FirstInRows};
 
+use std::io;
+
 // xorshift
 fn next(x: u64) -> u64 {
     let a = x ^ (x << 13);
@@ -117,50 +119,48 @@ fn in_order(rows: &[u64], active: &[u32], n: usize) -> bool
     true
 }
 
-fn say(yes: bool) {
+fn say(rt: &impl Print, yes: bool) -> io::Result<()> {
     if yes {
-        io::write_all(1, b" yes");
+        print!(rt; " yes")
     } else {
-        io::write_all(1, b" no");
+        print!(rt; " no")
     }
 }
 
-fn say_sorted(rows: &[u64], active: &[u32], n: usize)
+fn say_sorted(rt: &impl Print, rows: &[u64], active: &[u32], n: usize) -> io::Result<()>
     requires n_in_bounds { n ≤ length active.now }
     requires first_in_rows { FirstInRows rows.now n active.now }
 {
-    say(sorting::is_rising(rows, active, n));
-    say(in_order(rows, active, n));
-    io::write_all(1, b" ");
-    io::print_decimal(1, hash(rows, active, n));
-    io::write_all(1, b" ");
-    io::print_decimal(1, sum(active));
-    io::write_all(1, b"\n");
+    say(rt, sorting::is_rising(rows, active, n))?;
+    say(rt, in_order(rows, active, n))?;
+    let of_ids = hash(rows, active, n);
+    let of_entries = sum(active);
+    println!(rt; " {of_ids} {of_entries}")
 }
 
-fn sort_and_say(rows: &[u64], active: &mut [u32], n: usize)
+fn sort_and_say(rt: &impl Print, rows: &[u64], active: &mut [u32], n: usize) -> io::Result<()>
     requires n_in_bounds { n ≤ length active.old }
     requires first_in_rows { FirstInRows rows.now n active.old }
 {
-    say(sorting::is_rising(rows, active, n));
+    say(rt, sorting::is_rising(rows, active, n))?;
     sorting::sort_by_id(rows, active, n);
-    say_sorted(rows, active, n);
+    say_sorted(rt, rows, active, n)
 }
 
-fn show(kind: u64) {
+fn show(rt: &impl Print, kind: u64) -> io::Result<()> {
     let mut rows = [0u64; 1200];
     let mut active = [0u32; 700];
     fill(&mut rows, kind);
     number(&mut active);
-    io::print_decimal(1, kind);
-    sort_and_say(&rows, &mut active, 600);
+    print!(rt; "{kind}")?;
+    sort_and_say(rt, &rows, &mut active, 600)
 }
 
-fn main() {
-    show(0);
-    show(1);
-    show(2);
-    show(3);
-    show(4);
-    show(5);
+fn main(rt: HostRuntime) -> io::Result<()> {
+    show(&rt, 0)?;
+    show(&rt, 1)?;
+    show(&rt, 2)?;
+    show(&rt, 3)?;
+    show(&rt, 4)?;
+    show(&rt, 5)
 }

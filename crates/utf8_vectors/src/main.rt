@@ -5,31 +5,38 @@
 
 ghost use Rattle.std.specs.Prelude.{◌+◌, ◌<◌, ◌≤◌, length};
 
-fn main() {
-    let mut buf = io::large_buffer();
-    let n = io::read_full(0, &mut buf);
-    lines(&buf[..n]);
+use std::io;
+use std::io::Read;
+
+// No more of the input is read.
+const MOST: u64 = 65536;
+
+fn main(rt: HostRuntime) -> io::Result<()> {
+    let mut input = Vec::new(rt.alloc());
+    rt.reader().take(MOST).read_to_end(&mut input)?;
+    lines(&rt, input.as_slice())
 }
 
-fn lines(s: &[u8]) {
+fn lines(rt: &impl Print, s: &[u8]) -> io::Result<()> {
     let mut bytes = [0u8; 128];
     let mut at: usize = 0;
     while at < s.len() {
         let e = line_end(s, at);
         let n = decode(&s[at..e], &mut bytes);
-        answer(&bytes[..n]);
+        answer(rt, &bytes[..n])?;
         at = e + 1;
     }
+    Ok(())
 }
 
-fn answer(s: &[u8]) {
+fn answer(rt: &impl Print, s: &[u8]) -> io::Result<()> {
     if utf8::is_utf8(s) {
-        io::write_all(1, b"y ");
+        print!(rt; "y ")?;
     } else {
-        io::write_all(1, b"n ");
+        print!(rt; "n ")?;
     }
-    io::print_decimal(1, utf8::valid_front(s) as u64);
-    io::write_all(1, b"\n");
+    let front = utf8::valid_front(s);
+    println!(rt; "{front}")
 }
 
 // Where the line that begins at `at` ends.
