@@ -73,7 +73,7 @@ def shown_words(items):
 
 
 def shown_settings(config):
-    metric = definition("config/Settings/metricNumber", config["metric"])
+    metric = definition("config/Settings/metric_number", config["metric"])
     return f"d {config['dimensions']} m {config['m']} ef {config['ef_construction']} seed {config['seed']} metric {metric}"
 
 
@@ -103,18 +103,18 @@ def shown_tables(tables):
 
 def shown_output(name, output, result):
     first = f"refused {number(result[1])}" if refused(result) else f"{name} {len(result[1])}"
-    return [first, "output " + shown_bytes(definition("meaning/Calls/outputAfter", output, result))]
+    return [first, "output " + shown_bytes(definition("meaning/Calls/output_after", output, result))]
 
 
 # ---- calls
 
 
 def crc(numbers, parts):
-    return [f"crc {definition('crc32/Crc/crcOf', parts[0])}"]
+    return [f"crc {definition('crc32/Crc/crc_of', parts[0])}"]
 
 
 def utf8(numbers, parts):
-    return ["utf8 yes" if definition("utf8/Utf8/isUtf8", parts[0]) else "utf8 no"]
+    return ["utf8 yes" if definition("utf8/Utf8/is_utf8", parts[0]) else "utf8 no"]
 
 
 def defaults(numbers, parts):
@@ -133,12 +133,12 @@ def coordinates(numbers, parts):
     size = len(parts[0])
     if numbers[0] > 2 or size % 4 or not 4 <= size <= 16384:
         return BAD_REQUEST
-    cosine = definition("config/Settings/isCosine", (METRICS[numbers[0]],))
-    return checked(definition("coordinates/Coordinates/coordinatesOf", cosine, size // 4, parts[0]))
+    cosine = definition("config/Settings/is_cosine", (METRICS[numbers[0]],))
+    return checked(definition("coordinates/Coordinates/coordinates_of", cosine, size // 4, parts[0]))
 
 
 def rng_state(numbers, parts):
-    return [f"rng {definition('rng/Rng/rngState', *numbers)}"]
+    return [f"rng {definition('rng/Rng/rng_state', *numbers)}"]
 
 
 def lent_tables(numbers):
@@ -148,32 +148,32 @@ def lent_tables(numbers):
 
 def read_snapshot(numbers, parts):
     rows, entries = lent_tables(numbers)
-    result = definition("meaning/Calls/readCall", rows, entries, parts[0])
-    tables = shown_tables(definition("meaning/Calls/readTables", rows, entries, result))
+    result = definition("meaning/Calls/read_call", rows, entries, parts[0])
+    tables = shown_tables(definition("meaning/Calls/read_tables", rows, entries, result))
     if refused(result):
         return [f"refused snapshot {number(result[1])}"] + tables
     found = result[1]
     d = found["config"]["dimensions"]
-    size = definition("meaning/Replay/size", definition("meaning/Records/rowKind", d), found["rows"])
-    active = definition("meaning/Recovery/liveCount", found["rows"])
+    size = definition("meaning/Replay/size", definition("meaning/Records/row_kind", d), found["rows"])
+    active = definition("meaning/Recovery/live_count", found["rows"])
     first = f"accepted {shown_settings(found['config'])} crc {found['crc']} sequence {found['sequence']}"
     return [f"{first} records {len(found['rows'])} active {active} size {size}"] + tables + list(shown_records(d, found["rows"], parts[0], []))
 
 
 def shown_recovery(result, log):
-    if result[0] == "refusedSnapshot":
+    if result[0] == "refused_snapshot":
         return f"refused snapshot {number(result[1])}"
-    if result[0] == "refusedLog":
+    if result[0] == "refused_log":
         return f"refused log {number(result[1])} at {result[2]}"
-    told = definition("meaning/Calls/recoveryTold", log, result[1])
+    told = definition("meaning/Calls/recovery_told", log, result[1])
     names = ["crc", "sequence", "records", "active", "replayed", "skipped", "keep", "tail", "size"]
     return " ".join(["accepted", shown_settings(told["config"])] + [f"{name} {told[name]}" for name in names])
 
 
 def recover(numbers, parts):
     rows, entries = lent_tables(numbers)
-    result = definition("meaning/Calls/recoverCall", rows, entries, *parts)
-    tables = shown_tables(definition("meaning/Calls/recoverTables", rows, entries, result))
+    result = definition("meaning/Calls/recover_call", rows, entries, *parts)
+    tables = shown_tables(definition("meaning/Calls/recover_tables", rows, entries, result))
     records = []
     if result[0] == "recovered":
         records = shown_records(result[1]["config"]["dimensions"], result[1]["state"]["records"], *parts)
@@ -184,20 +184,20 @@ def recover_and_write(extent):
     def call(numbers, parts):
         rows, entries = lent_tables(numbers)
         output = [numbers[3] % 256] * numbers[2]
-        result = definition("meaning/Calls/recoverCall", rows, entries, *parts)
+        result = definition("meaning/Calls/recover_call", rows, entries, *parts)
         if result[0] != "recovered":
             return [shown_recovery(result, parts[1]), "output " + shown_bytes(output)]
-        told = definition("meaning/Calls/recoveryTold", parts[1], result[1])
-        words_left = definition("meaning/Calls/recoverTables", rows, entries, result)["rows"]
+        told = definition("meaning/Calls/recovery_told", parts[1], result[1])
+        words_left = definition("meaning/Calls/recover_tables", rows, entries, result)["rows"]
         arguments = (told["config"], told["sequence"], words_left, told["records"], *parts, output)
-        return shown_output("written", output, definition("meaning/Calls/writeCall", (extent,), *arguments))
+        return shown_output("written", output, definition("meaning/Calls/write_call", (extent,), *arguments))
 
     return call
 
 
 def listing(numbers, parts):
     files = [("found", part) for part in parts]
-    return ["listing " + shown_bytes(definition("listing_text/Files/listingOf", *files))]
+    return ["listing " + shown_bytes(definition("listing_text/Files/listing_of", *files))]
 
 
 def encode(shape):
@@ -207,7 +207,7 @@ def encode(shape):
             return BAD_REQUEST
         output = [numbers[7] % 256] * numbers[6]
         arguments = (settings(numbers), numbers[5], operations, coords, parts[2], output)
-        return shown_output("encoded", output, definition("meaning/Calls/encodeCall", (shape,), *arguments))
+        return shown_output("encoded", output, definition("meaning/Calls/encode_call", (shape,), *arguments))
 
     return call
 
@@ -219,7 +219,7 @@ def write(extent):
             return BAD_REQUEST
         output = [numbers[8] % 256] * numbers[7]
         arguments = (settings(numbers), numbers[5], rows, numbers[6], parts[1], parts[2], output)
-        return shown_output("written", output, definition("meaning/Calls/writeCall", (extent,), *arguments))
+        return shown_output("written", output, definition("meaning/Calls/write_call", (extent,), *arguments))
 
     return call
 
@@ -241,8 +241,8 @@ def view(shown):
             return BAD_REQUEST
         d, count, node = numbers
         result = definition("meaning/Views/view", (shown,), d, rows, count, node, parts[1], parts[2])
-        part = definition("sources/Sources/bytesOf", parts[1], parts[2], definition("meaning/Views/given", result))
-        return [f"number {definition('refusal/Refusal/numberTold', result)}", "part " + shown_bytes(part)]
+        part = definition("sources/Sources/bytes_of", parts[1], parts[2], definition("meaning/Views/given", result))
+        return [f"number {definition('refusal/Refusal/number_told', result)}", "part " + shown_bytes(part)]
 
     return call
 
@@ -250,16 +250,16 @@ def view(shown):
 def delete_frame(numbers, parts):
     sequence, node_id, room, fill = numbers
     output = [fill % 256] * room
-    written = definition("meaning/Calls/deleteCount", sequence, output)
-    return [f"written {written}", "output " + shown_bytes(definition("meaning/Calls/deleteOutput", sequence, node_id, output))]
+    written = definition("meaning/Calls/delete_count", sequence, output)
+    return [f"written {written}", "output " + shown_bytes(definition("meaning/Calls/delete_output", sequence, node_id, output))]
 
 
 def read_cache(numbers, parts):
     if numbers[4] > 2 or numbers[5] >= 2**32:
         return BAD_REQUEST
     crc_of_snapshot, sequence, count, lent = numbers[5:9]
-    result = definition("graph/Cache/readCache", settings(numbers), crc_of_snapshot, sequence, count, lent, parts[0])
-    starts = definition("graph/Told/startsAfter", lent, result)
+    result = definition("graph/Cache/read_cache", settings(numbers), crc_of_snapshot, sequence, count, lent, parts[0])
+    starts = definition("graph/Told/starts_after", lent, result)
     lines = ["starts " + shown_words(starts)]
     if refused(result):
         return [f"refused {number(result[1])}"] + lines
@@ -276,8 +276,8 @@ def neighbours(numbers, parts):
     if starts is None:
         return BAD_REQUEST
     result = definition("graph/Neighbours/neighbours", parts[1], starts, *numbers)
-    part = definition("graph/Neighbours/partOf", parts[1], definition("graph/Neighbours/partGiven", result))
-    return [f"number {definition('refusal/Refusal/numberTold', result)}", "part " + shown_bytes(part)]
+    part = definition("graph/Neighbours/part_of", parts[1], definition("graph/Neighbours/part_given", result))
+    return [f"number {definition('refusal/Refusal/number_told', result)}", "part " + shown_bytes(part)]
 
 
 CALLS = {

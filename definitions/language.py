@@ -36,7 +36,7 @@ def replaced(items, place, item):
     return items[:place] + [item] + items[place + 1 :] if place < len(items) else items
 
 
-# Prim.Native.Nat, mathlib.Core.Bool and List, lib.Dec, lib.ListN, lib.Bits
+# Rattle.std.specs.Prelude and Int.Bits, Prim.Native.Char
 LIBRARY = {
     "true": True,
     "false": False,
@@ -49,12 +49,12 @@ LIBRARY = {
     "eqb": Function(2, lambda a, b: a == b),
     "min": Function(2, min),
     "max": Function(2, max),
-    "bitXor": Function(2, lambda a, b: a ^ b),
+    "bit_xor": Function(2, lambda a, b: a ^ b),
     "differ": Function(2, lambda a, b: abs(a - b)),
     "length": Function(1, len),
     "take": Function(2, lambda n, items: items[:n]),
     "drop": Function(2, lambda n, items: items[n:]),
-    "getD": Function(3, lambda items, n, otherwise: items[n] if n < len(items) else otherwise),
+    "get_or": Function(3, lambda items, n, otherwise: items[n] if n < len(items) else otherwise),
     "set": Function(3, replaced),
     "replicate": Function(2, lambda n, item: [item] * n),
     "code": Function(1, ord),
@@ -91,9 +91,9 @@ WORD = re.compile(
     r"""(?P<space>[ \t]+) | (?P<line>\n) | (?P<comment>--[^\n]*)
     | (?P<text>"(?:[^"\\]|\\.)*")
     | (?P<number>0x[0-9A-Fa-f]+ | \d+(?!\w))
-    | (?P<field>(?<=[ \t])\.(?:«[^»]*»|\w[\w′-]*))
+    | (?P<field>(?<=[\w')\]»])\.(?:«[^»]*»|\w[\w']*))
     | (?P<operator>>>=|\+\+|&&|\|\||∷|←|→|[-+*/%^=;{}(),:×λ.\[\]≡≤<])
-    | (?P<name>«[^»]*»|_>>=_|[^\W\d][\w′'·-]*(?:\.[^\W\d][\w′'·-]*)*|_)""",
+    | (?P<name>«[^»]*»|◌>>=◌|[^\W\d][\w']*|_)""",
     re.X,
 )
 
@@ -173,15 +173,21 @@ class Reader:
         )
 
     def application(self):
+        left = self.projection()
+        while self.begins_atom():
+            left = ("apply", left, self.projection())
+        return left
+
+    def sees_field(self):
+        word = self.peek()
+        return word is not None and word.kind == "field"
+
+    def projection(self):
+        """An atom with the fields that are written to it: `r.f`, `(g x).f`; `Cases.Case` too."""
         left = self.atom()
-        while True:
-            word = self.peek()
-            if word is not None and word.kind == "field":
-                left = ("field", left, str(self.next().text))
-            elif self.begins_atom():
-                left = ("apply", left, self.atom())
-            else:
-                return left
+        while self.sees_field():
+            left = ("field", left, str(self.next().text))
+        return left
 
     def atom(self):
         word = self.next()
@@ -263,7 +269,10 @@ class Reader:
             pattern = self.wide_pattern()
             self.take(")")
             return pattern
-        return ("name", word.text, [])
+        name = word.text
+        while self.sees_field():
+            name += "." + self.next().text
+        return ("name", name, [])
 
     def wide_pattern(self):
         left = self.pattern()
@@ -293,9 +302,6 @@ class Module:
             return self.values[name]
         if name in LIBRARY:
             return LIBRARY[name]
-        if "." in name:
-            front, rest = name.split(".", 1)
-            return self.others[front][rest] if front in self.others else self.find(rest)
         raise NameError(f"{self.crate}/{self.name}: {name}")
 
     def constructor_named(self, name):
@@ -364,8 +370,8 @@ def load(crate, name):
 
 def take_up(module, text):
     path, names, alias = re.match(r"(?:pub )?use (\S+?)(?:\.\{(.*)\})?(?: as (\w+))?$", text, re.S).groups()
-    found = re.match(r"Rattle·(\w+?)(?:·specs)?\.specs\.(.*)$", path)
-    if not found:
+    found = re.match(r"Rattle\.(\w+)\.specs\.(.*)$", path)
+    if not found or found[1] == "std":
         return
     crate, rest = found.groups()
     parts = rest.split(".")
@@ -460,6 +466,9 @@ def meaning(module, expression, parameters, inside):
         return lambda names: expression[1]
     if kind == "name":
         return named(module, expression[1], parameters, inside)
+    if kind == "field" and expression[1][0] == "name" and expression[1][1] in module.others:
+        value = module.others[expression[1][1]][expression[2]]
+        return lambda names: value
     if kind == "field":
         whole, field = of(expression[1]), expression[2]
         return lambda names: whole(names)[field]
@@ -503,6 +512,6 @@ def operation(module, operator, left, right):
     if operator == "||":
         return lambda names: left(names) or right(names)
     if operator == ">>=":
-        return lambda names: apply(module.find("_>>=_"), left(names), right(names))
+        return lambda names: apply(module.find("◌>>=◌"), left(names), right(names))
     work = OPERATORS[operator]
     return lambda names: work(left(names), right(names))

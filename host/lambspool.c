@@ -484,7 +484,7 @@ static void tell_tail(const uint8_t *tail, size_t length, uint64_t next)
         name, id, length <= 8 ? "" : tail_sequence(tail, length, next), length, whole);
 }
 
-/* When a frame may be appended, and where. By `still-gone` a delete takes effect if it has the sequence after recovery's, at the log's
+/* When a frame may be appended, and where. By `still_gone` a delete takes effect if it has the sequence after recovery's, at the log's
  * end with no tail left, and the log is not older than the snapshot: it has no frame, or its last one is not below the snapshot's
  * sequence (NotOlder). To an older log no frame can be appended: after its last frame only the next sequence is taken, and a frame of
  * that is skipped as already inside. What is cut or emptied is to be copied first: only its sequence says that a snapshot holds it. */
