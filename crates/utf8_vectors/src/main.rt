@@ -8,13 +8,26 @@ ghost use Rattle.std.specs.Prelude.{◌+◌, ◌<◌, ◌≤◌, length};
 use std::io;
 use std::io::Read;
 
-// No more of the input is read.
-const MOST: u64 = 65536;
-
+// No more of the input is read than there is room for.
 fn main(rt: HostRuntime) -> io::Result<()> {
-    let mut input = Vec::new(rt.alloc());
-    rt.reader().take(MOST).read_to_end(&mut input)?;
-    lines(&rt, input.as_slice())
+    let mut room = [0u8; 65536];
+    let n = read_full(&mut rt.reader(), &mut room);
+    lines(&rt, &room[..n])
+}
+
+// Reads until the room is full, the input ends or a read fails; how many bytes it put there.
+fn read_full(input: &mut impl Read, room: &mut [u8]) -> usize
+    ensures { result ≤ length room.new }
+{
+    let mut done = 0;
+    while done < room.len() {
+        match input.read(&mut room[done..]) {
+            Ok(0) => return done,
+            Ok(n) => done += n,
+            Err(_) => return done,
+        }
+    }
+    done
 }
 
 fn lines(rt: &impl Print, s: &[u8]) -> io::Result<()> {
