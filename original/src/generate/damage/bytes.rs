@@ -84,6 +84,9 @@ pub fn payload_crc(prng: &mut Prng, pair: &mut PairBytes) {
 pub fn any_byte(prng: &mut Prng, pair: &mut PairBytes) {
     let of_log = prng.permille(500) && !pair.log.is_empty();
     let bytes = if of_log { &mut pair.log } else { &mut pair.snapshot };
+    if bytes.is_empty() {
+        return;
+    }
     let place = prng.index(bytes.len());
     bytes[place] = prng.next() as u8;
     if of_log {
