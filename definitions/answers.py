@@ -87,7 +87,7 @@ def number(refusal):
 
 
 def refused(result):
-    return result[0] == "refused"
+    return result[0] == "Err"
 
 
 def shown_records(d, rows, snapshot, log):
@@ -264,7 +264,7 @@ def read_cache(numbers, parts):
     if refused(result):
         return [f"refused {number(result[1])}"] + lines
     header, graph = result[1]["header"], result[1]["graph"]
-    entry = header["entry"][1]["0"] if header["entry"][0] == "Node" else "none"
+    entry = header["entry"][1]["0"] if header["entry"][0] == "Some" else "none"
     for node, levels in enumerate(graph):
         shown = [",".join(map(str, level)) or "-" for level in levels]
         lines.append(f"{node} {len(levels)} {'|'.join(shown)}")

@@ -59,7 +59,13 @@ LIBRARY = {
     "replicate": Function(2, lambda n, item: [item] * n),
     "code": Function(1, ord),
     "map": Function(2, lambda f, items: [apply(f, item) for item in items]),
+    "Some": constructor("Some", 1),
+    "None": constructor("None", 0),
+    "Ok": constructor("Ok", 1),
+    "Err": constructor("Err", 1),
 }
+# those of them that a pattern may name
+CASES = ("true", "false", "tt", "zero", "suc", "Some", "None", "Ok", "Err")
 OPERATORS = {
     "+": lambda a, b: a + b,
     "-": lambda a, b: max(a - b, 0),
@@ -305,7 +311,7 @@ class Module:
         raise NameError(f"{self.crate}/{self.name}: {name}")
 
     def constructor_named(self, name):
-        if name in self.constructors or name in ("true", "false", "tt", "zero", "suc"):
+        if name in self.constructors or name in CASES:
             return name
         if "." in name:
             front, rest = name.split(".", 1)
@@ -320,7 +326,7 @@ def variants(crate, enum):
         found = re.search(r"enum %s \{(.*?)\n\}" % enum, open(os.path.join(folder, name), encoding="utf-8").read(), re.S)
         if found:
             text = re.sub(r"//[^\n]*", "", found.group(1))
-            return {case: len([v for v in values.split(",") if v.strip()]) for case, values in re.findall(r"(\w+)(?:\(([^)]*)\))?,", text)}
+            return {case: len([v for v in values.split(",") if v.strip()]) for case, values in re.findall(r"(\w+)(?:\(([^)]*)\))?(?: = \d+)?,", text)}
     raise NameError(f"{crate} declares no enum {enum}")
 
 

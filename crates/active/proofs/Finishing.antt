@@ -1,4 +1,5 @@
 -- The last step over a table: what the entries hold once the live nodes are listed and sorted and zeros are behind, and the row words with zeros behind.
+use Rattle.std.specs.Prelude.{Ok, Err}
 use Prim.Native.Nat.{ℕ, suc, ◌*◌, ◌-◌, ◌≤◌}
 use native.Mathlib.Omega.{arith}
 use mathlib.Core.Path.{◌≡◌, refl, sym, ap, ap₂, subst, ◌∙◌}
@@ -9,7 +10,7 @@ use lib.ListN.{length, take, drop, replicate}
 use lib.Seq.{take-append_seam}
 use Rattle.sorting.specs.Sorting.{key_of, rising, insert_node, sorted_nodes, FirstInRows}
 use Rattle.rows.specs.declared.Row.{Row}
-use Rattle.refusal.specs.Refusal.{answer, refused, ◌>>=◌, refuse}
+use Rattle.refusal.specs.Refusal.{◌>>=◌, refuse}
 use Rattle.refusal.specs.declared.Refusal.{Refusal}
 use Rattle.refusal.specs.declared.Refusal.TheVariants.{ActiveTwice}
 use Rattle.refusal.proofs.Results.{went, answer_injective, refused_no_answer}
@@ -89,15 +90,15 @@ pub record Live (rows : List Row) (n : ℕ) : Type 0 where
   pub once : live_twice rows ≡ false
   pub count_is : n ≡ live_count rows
 
-pub activated_live : (rows : List Row) (n : ℕ) → activated rows ≡ answer n → Live rows n
+pub activated_live : (rows : List Row) (n : ℕ) → activated rows ≡ Ok n → Live rows n
 activated_live rows n e =
     let w = went ActiveTwice (live_twice rows) _ n e in
     record { once = w.test_false; count_is = sym (answer_injective _ n w.then) }
 
-pub activated_twice : (rows : List Row) (why : Refusal) → activated rows ≡ refused why → live_twice rows ≡ true
+pub activated_twice : (rows : List Row) (why : Refusal) → activated rows ≡ Err why → live_twice rows ≡ true
 activated_twice rows why e = go (live_twice rows) refl e
   where
-    go : (t : Bool) → live_twice rows ≡ t → refuse ActiveTwice t >>= (λ _. answer (live_count rows)) ≡ refused why → live_twice rows ≡ true
+    go : (t : Bool) → live_twice rows ≡ t → refuse ActiveTwice t >>= (λ _. Ok (live_count rows)) ≡ Err why → live_twice rows ≡ true
     go true q e = q
     go false q e = absurd (refused_no_answer why _ (sym e))
 

@@ -90,6 +90,13 @@ module _ (rows : List ℕ) (count : ℕ) (entries₀ : List ℕ) where
               ∙ sym (append_assoc k.done (i ∷ []) (rest (i + 1)));
         }
 
-    pub listing_all : count ≤ i → live_nodes (rows_in count rows) ≡ k.done
+    all : count ≤ i → live_nodes (rows_in count rows) ≡ k.done
     unfolding live_from
-    listing_all h = k.whole ∙ ap (λ (l : List Row). k.done ++ live_from i l) (rows_over rows count i h) ∙ append-nil k.done
+    all h = k.whole ∙ ap (λ (l : List Row). k.done ++ live_from i l) (rows_over rows count i h) ∙ append-nil k.done
+
+    -- at the end
+    pub listing_count : count ≤ i → n ≡ length (live_nodes (rows_in count rows))
+    listing_count h = k.n_is ∙ ap length (sym (all h))
+
+    pub listing_words : count ≤ i → entries ≡ live_nodes (rows_in count rows) ++ drop n entries₀
+    listing_words h = k.words ∙ ap (λ (d : List ℕ). d ++ drop n entries₀) (sym (all h))

@@ -1,6 +1,6 @@
 -- What finishing a table answers, and what the lent row words and entries hold after.
-use Rattle.std.specs.Prelude.{ℕ, ◌*◌, ◌-◌, cond, List, ◌++◌, length, take, replicate}
-use Rattle.refusal.specs.Refusal.{Result, answer, ◌>>=◌, refuse}
+use Rattle.std.specs.Prelude.{ℕ, ◌*◌, ◌-◌, cond, List, ◌++◌, length, take, replicate, Ok}
+use Rattle.refusal.specs.Refusal.{Answer, ◌>>=◌, refuse}
 use Rattle.refusal.specs.declared.Refusal.TheVariants.{ActiveTwice}
 use Rattle.rows.specs.declared.Row.{Row}
 use Rattle.meaning.specs.Recovery.{live_count}
@@ -8,8 +8,8 @@ use Rattle.meaning.specs.Snapshot.{live_twice}
 use Rattle.meaning.specs.Tables.{rows_in, active_nodes, filled}
 
 -- how many of the rows are active; 18 where an ID is live twice
-abbrev pub activated : List Row → Result ℕ
-activated rows = refuse ActiveTwice (live_twice rows) >>= (λ _. answer (live_count rows))
+abbrev pub activated : List Row → Answer ℕ
+activated rows = refuse ActiveTwice (live_twice rows) >>= (λ _. Ok (live_count rows))
 
 -- the first of a table's words, and zeros from `at` on
 abbrev pub zeros_from : ℕ → List ℕ → List ℕ

@@ -8,7 +8,6 @@
 
 ghost use Rattle.std.specs.Prelude.{◌≤◌, length};
 
-use exchange::request::Asked;
 use exchange::text::Cursor;
 use exchange::{lend, request, text};
 
@@ -38,8 +37,8 @@ fn lines(
     answer: &mut [u8],
 ) -> Cursor {
     match request::call_of(request) {
-        Asked::Call(call) => lent(call, request, words, entries, output, answer),
-        Asked::Bad => text::bad_request(answer),
+        Some(call) => lent(call, request, words, entries, output, answer),
+        None => text::bad_request(answer),
     }
 }
 

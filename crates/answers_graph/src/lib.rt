@@ -5,7 +5,7 @@ pub mod nodes;
 
 use exchange::text::Cursor;
 use exchange::{atoms, request, text};
-use graph::{CacheInfo, Entry, ReadCache};
+use graph::CacheInfo;
 use rows::Node;
 
 // The lines of the answer, without the last. What is lent is as long as the request has it, and filled; neither call is lent
@@ -30,8 +30,8 @@ fn read(request: &[u8], starts: &mut [u64], entries: &[u32], answer: &mut [u8]) 
     let count = request::number(request, 7) as usize;
     let cache = request::part(request, 0);
     match graph::read_cache(cache, config, crc, sequence, count, starts) {
-        ReadCache::Accepted(info) => accepted(info, cache, starts, entries, answer),
-        ReadCache::Refused(why) => {
+        Ok(info) => accepted(info, cache, starts, entries, answer),
+        Err(why) => {
             let at = text::refused(answer, b"refused ", why);
             atoms::words_line(answer, at, b"starts ", starts, entries)
         }
@@ -45,19 +45,17 @@ fn accepted(
     entries: &[u32],
     answer: &mut [u8],
 ) -> Cursor {
-    let count = info.nodes;
-    let first = info.entry;
-    let a = text::named(answer, text::start(), b"accepted nodes ", count as u64);
-    let b = entry(answer, a, first);
+    let a = text::named(answer, text::start(), b"accepted nodes ", info.nodes as u64);
+    let b = entry(answer, a, info.entry);
     let c = text::number_line(answer, b, b" rng ", info.rng_state);
     let at = atoms::words_line(answer, c, b"starts ", starts, entries);
-    nodes::lines(answer, at, cache, starts, count)
+    nodes::lines(answer, at, cache, starts, info.nodes)
 }
 
-fn entry(answer: &mut [u8], c: Cursor, entry: Entry) -> Cursor {
+fn entry(answer: &mut [u8], c: Cursor, entry: Option<Node>) -> Cursor {
     match entry {
-        Entry::Node(node) => text::named(answer, c, b" entry ", node.0 as u64),
-        Entry::None => text::put(answer, c, b" entry none"),
+        Some(node) => text::named(answer, c, b" entry ", node.0 as u64),
+        None => text::put(answer, c, b" entry none"),
     }
 }
 

@@ -5,13 +5,8 @@ use rows::Node;
 
 pub fn lines(answer: &mut [u8], c: Cursor, cache: &[u8], starts: &[u64], count: usize) -> Cursor {
     let mut at = c;
-    let mut node: u32 = 0;
-    while node < u32::MAX {
-        if count <= (node as usize) {
-            return at;
-        }
+    for node in 0..u32::try_from(count).unwrap_or(u32::MAX) {
         at = line(answer, at, cache, starts, count, Node(node));
-        node += 1;
     }
     at
 }
@@ -24,24 +19,18 @@ fn line(
     count: usize,
     node: Node,
 ) -> Cursor {
-    let n = node.0;
-    let levels = levels_of(cache, starts, n as usize);
-    let a = text::decimal(answer, c, n as u64);
+    let levels = levels_of(cache, starts, node);
+    let a = text::decimal(answer, c, node.0 as u64);
     let b = text::named(answer, a, b" ", levels as u64);
     let e = text::byte(answer, b, b' ');
-    let f = lists(answer, e, cache, starts, count, Node(n), levels);
+    let f = lists(answer, e, cache, starts, count, node, levels);
     text::byte(answer, f, b'\n')
 }
 
-fn levels_of(cache: &[u8], starts: &[u64], node: usize) -> u8 {
-    if starts.len() <= node {
-        return 0;
-    }
-    let start = starts[node] as usize;
-    if cache.len() <= start {
-        return 0;
-    }
-    cache[start]
+fn levels_of(cache: &[u8], starts: &[u64], node: Node) -> u8 {
+    let start = starts.get(node.0 as usize);
+    let levels = start.and_then(|at| cache.get(*at as usize));
+    levels.copied().unwrap_or(0)
 }
 
 fn lists(
@@ -53,20 +42,17 @@ fn lists(
     node: Node,
     levels: u8,
 ) -> Cursor {
-    let n = node.0;
     let mut at = c;
-    let mut level: u8 = 0;
-    while level < levels {
-        let part = graph::neighbours(cache, starts, count, Node(n), level as usize);
-        at = list(answer, at, level as usize, part);
-        level += 1;
+    for level in 0..usize::from(levels) {
+        let part = graph::neighbours(cache, starts, count, node, level);
+        at = list(answer, at, level, part);
     }
     at
 }
 
 fn list(answer: &mut [u8], c: Cursor, level: usize, part: &[u8]) -> Cursor {
     let at = separated(answer, c, level, b'|');
-    if part.len() == 0 {
+    if part.is_empty() {
         return text::byte(answer, at, b'-');
     }
     numbers(answer, at, part)
@@ -82,11 +68,9 @@ fn separated(answer: &mut [u8], c: Cursor, place: usize, separator: u8) -> Curso
 
 fn numbers(answer: &mut [u8], c: Cursor, part: &[u8]) -> Cursor {
     let mut at = c;
-    let mut i: usize = 0;
-    while i < part.len() / 4 {
+    for i in 0..part.len() / 4 {
         at = separated(answer, at, i, b',');
         at = text::decimal(answer, at, fields::get_u32(part, 4 * i) as u64);
-        i += 1;
     }
     at
 }

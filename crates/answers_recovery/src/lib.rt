@@ -4,8 +4,8 @@
 use answers_store::records;
 use exchange::text::Cursor;
 use exchange::{atoms, request, text};
-use recovery::{Recovery, RecoveryInfo};
-use refusal::{Refusal, Written};
+use recovery::{NotRecovered, RecoveryInfo};
+use refusal::Refusal;
 
 // The lines of the answer, without the last. What is lent is as long as the request has it, and filled.
 pub fn lines(
@@ -27,7 +27,7 @@ pub fn lines(
 }
 
 fn recovered<'a>(
-    told: Recovery,
+    told: Result<RecoveryInfo, NotRecovered>,
     snapshot: &'a [u8],
     log: &'a [u8],
     rows: &[u64],
@@ -35,12 +35,12 @@ fn recovered<'a>(
     answer: &mut [u8],
 ) -> Cursor {
     match told {
-        Recovery::Recovered(info) => accepted(info, snapshot, log, rows, active, answer),
-        Recovery::RefusedSnapshot(why) => {
+        Ok(info) => accepted(info, snapshot, log, rows, active, answer),
+        Err(NotRecovered::Snapshot(why)) => {
             let at = refused_snapshot(answer, why);
             records::tables(answer, at, rows, active)
         }
-        Recovery::RefusedLog(why, byte) => {
+        Err(NotRecovered::Log(why, byte)) => {
             let at = refused_log(answer, why, byte);
             records::tables(answer, at, rows, active)
         }
@@ -97,7 +97,7 @@ fn refused_log(answer: &mut [u8], why: Refusal, byte: usize) -> Cursor {
 // Recovered, then written: recovery's refusal or the writer's line.
 fn rewritten<'a>(
     call: u8,
-    told: Recovery,
+    told: Result<RecoveryInfo, NotRecovered>,
     snapshot: &'a [u8],
     log: &'a [u8],
     rows: &[u64],
@@ -105,12 +105,12 @@ fn rewritten<'a>(
     answer: &mut [u8],
 ) -> Cursor {
     match told {
-        Recovery::Recovered(info) => answers_written::written(
+        Ok(info) => answers_written::written(
             answer,
             write(call, info, snapshot, log, rows, output),
         ),
-        Recovery::RefusedSnapshot(why) => refused_snapshot(answer, why),
-        Recovery::RefusedLog(why, byte) => refused_log(answer, why, byte),
+        Err(NotRecovered::Snapshot(why)) => refused_snapshot(answer, why),
+        Err(NotRecovered::Log(why, byte)) => refused_log(answer, why, byte),
     }
 }
 
@@ -121,7 +121,7 @@ fn write<'a>(
     log: &'a [u8],
     rows: &[u64],
     output: &mut [u8],
-) -> Written {
+) -> Result<usize, Refusal> {
     let config = info.config;
     let sequence = info.sequence;
     let count = info.records;

@@ -6,8 +6,7 @@ pub mod records;
 use exchange::text::Cursor;
 use exchange::{atoms, request, text};
 use rows::{Id, Node};
-use snapshot::{ReadSnapshot, SnapshotInfo};
-use views::Found;
+use snapshot::SnapshotInfo;
 
 // The lines of the answer, without the last. What is lent is as long as the request has it, and filled.
 pub fn lines(
@@ -26,8 +25,8 @@ pub fn lines(
 
 fn read(bytes: &[u8], rows: &mut [u64], active: &mut [u32], answer: &mut [u8]) -> Cursor {
     match snapshot::read_snapshot(bytes, rows, active) {
-        ReadSnapshot::Accepted(info) => accepted(info, bytes, rows, active, answer),
-        ReadSnapshot::Refused(why) => {
+        Ok(info) => accepted(info, bytes, rows, active, answer),
+        Err(why) => {
             let at = text::refused(answer, b"refused snapshot ", why);
             records::tables(answer, at, rows, active)
         }
@@ -65,9 +64,9 @@ fn counts(answer: &mut [u8], c: Cursor, records: usize, active: usize, size: usi
 fn found(request: &[u8], rows: &[u64], answer: &mut [u8]) -> Cursor {
     let count = request::number(request, 0) as usize;
     match views::lookup(rows, count, Id(request::number(request, 1))) {
-        Found::Node(node) => text::number_line(answer, text::start(), b"node ", node.0 as u64),
-        Found::None => text::line(answer, text::start(), b"none"),
-        Found::Refused(why) => text::refused(answer, b"refused ", why),
+        Ok(Some(node)) => text::number_line(answer, text::start(), b"node ", node.0 as u64),
+        Ok(None) => text::line(answer, text::start(), b"none"),
+        Err(why) => text::refused(answer, b"refused ", why),
     }
 }
 

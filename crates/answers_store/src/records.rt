@@ -26,13 +26,8 @@ pub fn lines<'a>(
     d: usize,
 ) -> Cursor {
     let mut at = c;
-    let mut node: u32 = 0;
-    while node < u32::MAX {
-        if count <= (node as usize) {
-            return at;
-        }
-        at = record(answer, at, rows, count, Node(node), snapshot, log, d);
-        node += 1;
+    for node in 0..count.min(4_294_967_295) {
+        at = record(answer, at, rows, count, Node(node as u32), snapshot, log, d);
     }
     at
 }

@@ -4,7 +4,7 @@
 
 use exchange::text::Cursor;
 use exchange::{atoms, request, text};
-use refusal::Written;
+use refusal::Refusal;
 
 // The lines of the answer, without the last. What is lent is as long as the request has it, and filled; words are operations or
 // rows.
@@ -64,7 +64,7 @@ fn encode(
     operations: &[u64],
     coordinates: &[u32],
     output: &mut [u8],
-) -> Written {
+) -> Result<usize, Refusal> {
     let config = request::set_of(request);
     let sequence = request::number(request, 5);
     let captions = request::part(request, 2);
@@ -74,14 +74,14 @@ fn encode(
     encoder::encode_frame(config, sequence, operations, coordinates, captions, output)
 }
 
-fn encoded(answer: &mut [u8], told: Written) -> Cursor {
+fn encoded(answer: &mut [u8], told: Result<usize, Refusal>) -> Cursor {
     match told {
-        Written::Bytes(n) => text::number_line(answer, text::start(), b"encoded ", n as u64),
-        Written::Refused(why) => text::refused(answer, b"refused ", why),
+        Ok(n) => text::number_line(answer, text::start(), b"encoded ", n as u64),
+        Err(why) => text::refused(answer, b"refused ", why),
     }
 }
 
-fn write(call: u8, request: &[u8], rows: &[u64], output: &mut [u8]) -> Written {
+fn write(call: u8, request: &[u8], rows: &[u64], output: &mut [u8]) -> Result<usize, Refusal> {
     let config = request::set_of(request);
     let sequence = request::number(request, 5);
     let count = request::number(request, 6) as usize;
@@ -95,10 +95,10 @@ fn write(call: u8, request: &[u8], rows: &[u64], output: &mut [u8]) -> Written {
     writer::write_snapshot(config, sequence, rows, count, snapshot, log, output)
 }
 
-pub fn written(answer: &mut [u8], told: Written) -> Cursor {
+pub fn written(answer: &mut [u8], told: Result<usize, Refusal>) -> Cursor {
     match told {
-        Written::Bytes(n) => text::number_line(answer, text::start(), b"written ", n as u64),
-        Written::Refused(why) => text::refused(answer, b"refused ", why),
+        Ok(n) => text::number_line(answer, text::start(), b"written ", n as u64),
+        Err(why) => text::refused(answer, b"refused ", why),
     }
 }
 

@@ -1,4 +1,5 @@
 -- Laws of settings, for whoever goes on with valid ones: `Bounded c` says document 01's bounds, and a config is valid exactly under them. A metric and its number determine each other.
+use Rattle.std.specs.Prelude.{Ok, Err}
 use Prim.Native.Nat.{ℕ, ◌≤◌, ◌<◌}
 use mathlib.Core.Path.{◌≡◌, refl, ap, ◌∙◌}
 use mathlib.Core.Bool.{Bool, true, false, not, ◌&&◌, cond}
@@ -10,7 +11,6 @@ use Rattle.config.specs.Settings.{Bounded, validate, in_range, metric_of, metric
 use Rattle.config.specs.declared.Config.{Config}
 use Rattle.config.specs.declared.Metric.{Metric}
 use Rattle.config.specs.declared.Metric.TheVariants.{SquaredL2, Cosine, InnerProduct}
-use Rattle.refusal.specs.Refusal.{answer, refused}
 use Rattle.refusal.specs.declared.Refusal.TheVariants.{WrongMetric, WrongDimensions, WrongM, WrongEf}
 use Rattle.refusal.proofs.Results.{went, not_refused}
 
@@ -38,7 +38,7 @@ bounds_of_in_range x low high e = by (leb low x) refl e
     by true q e = (leb-true _ _ q, leb-true _ _ e)
     by false q e = let z : ◌≡◌ {A = ℕ} 0 1 = cc in absurd (omega arith)
 
-pub bounded_of_valid : (c : Config) → validate c ≡ answer tt → Bounded c
+pub bounded_of_valid : (c : Config) → validate c ≡ Ok tt → Bounded c
 unfolding validate
 bounded_of_valid c e =
     let d = went WrongDimensions (not (in_range c.dimensions min_dimensions max_dimensions)) _ tt e in
@@ -49,7 +49,7 @@ bounded_of_valid c e =
     let he = bounds_of_in_range _ _ _ (not-false _ f) in
     record { d_low = hd.0; d_high = hd.1; m_low = hm.0; m_high = hm.1; ef_low = he.0; ef_high = he.1 }
 
-pub valid_of_bounded : (c : Config) → Bounded c → validate c ≡ answer tt
+pub valid_of_bounded : (c : Config) → Bounded c → validate c ≡ Ok tt
 unfolding validate
 valid_of_bounded c b =
     simp (in_range_of _ _ _ b.d_low b.d_high, in_range_of _ _ _ b.m_low b.m_high, in_range_of _ _ _ b.ef_low b.ef_high)
@@ -59,27 +59,27 @@ number_below_three SquaredL2 = lit< tt
 number_below_three Cosine = lit< tt
 number_below_three InnerProduct = lit< tt
 
-pub read_of_number : (k : Metric) → metric_of (metric_number k) ≡ answer k
+pub read_of_number : (k : Metric) → metric_of (metric_number k) ≡ Ok k
 unfolding metric_of
 read_of_number SquaredL2 = refl
 read_of_number Cosine = refl
 read_of_number InnerProduct = refl
 
-pub number_of_read : (v : ℕ) (k : Metric) → metric_of v ≡ answer k → v ≡ metric_number k
+pub number_of_read : (v : ℕ) (k : Metric) → metric_of v ≡ Ok k → v ≡ metric_number k
 unfolding metric_of
 number_of_read v k e = first (eqb v 0) refl e
   where
-    unknown : refused WrongMetric ≡ answer k → v ≡ metric_number k
+    unknown : Err WrongMetric ≡ Ok k → v ≡ metric_number k
     unknown e = let z : ◌≡◌ {A = ℕ} 0 1 = cc in absurd (omega arith)
 
-    third : (t : Bool) → eqb v 2 ≡ t → cond t (answer InnerProduct) (refused WrongMetric) ≡ answer k → v ≡ metric_number k
+    third : (t : Bool) → eqb v 2 ≡ t → cond t (Ok InnerProduct) (Err WrongMetric) ≡ Ok k → v ≡ metric_number k
     third true q e = let same : InnerProduct ≡ k = cc in eqb-true v 2 q ∙ ap metric_number same
     third false q e = unknown e
 
-    second : (t : Bool) → eqb v 1 ≡ t → cond t (answer Cosine) (cond (eqb v 2) (answer InnerProduct) (refused WrongMetric)) ≡ answer k → v ≡ metric_number k
+    second : (t : Bool) → eqb v 1 ≡ t → cond t (Ok Cosine) (cond (eqb v 2) (Ok InnerProduct) (Err WrongMetric)) ≡ Ok k → v ≡ metric_number k
     second true q e = let same : Cosine ≡ k = cc in eqb-true v 1 q ∙ ap metric_number same
     second false q e = third (eqb v 2) refl e
 
-    first : (t : Bool) → eqb v 0 ≡ t → cond t (answer SquaredL2) (cond (eqb v 1) (answer Cosine) (cond (eqb v 2) (answer InnerProduct) (refused WrongMetric))) ≡ answer k → v ≡ metric_number k
+    first : (t : Bool) → eqb v 0 ≡ t → cond t (Ok SquaredL2) (cond (eqb v 1) (Ok Cosine) (cond (eqb v 2) (Ok InnerProduct) (Err WrongMetric))) ≡ Ok k → v ≡ metric_number k
     first true q e = let same : SquaredL2 ≡ k = cc in eqb-true v 0 q ∙ ap metric_number same
     first false q e = second (eqb v 1) refl e

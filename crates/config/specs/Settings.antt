@@ -1,12 +1,10 @@
 -- Settings: their defaults, what is refused of them, the metric's number in a file, and how long a caption may be.
-use Rattle.std.specs.Prelude.{ℕ, ◌≤◌, Bool, true, false, not, ◌&&◌, cond, leb, eqb}
-use Rattle.refusal.specs.Refusal.{Result, answer, refused, ◌>>=◌, refuse, told}
+use Rattle.std.specs.Prelude.{ℕ, ◌≤◌, Bool, true, false, not, ◌&&◌, cond, leb, eqb, Ok, Err}
+use Rattle.refusal.specs.Refusal.{Answer, ◌>>=◌, refuse}
 use Rattle.refusal.specs.declared.Refusal.TheVariants.{WrongMetric, WrongDimensions, WrongM, WrongEf}
 use Rattle.config.specs.Limits.{min_dimensions, max_dimensions, min_m, max_m, max_ef, max_metadata, default_m, default_ef, default_seed}
 use Rattle.config.specs.declared.Metric.{Metric}
 use Rattle.config.specs.declared.Metric.TheVariants.{SquaredL2, Cosine, InnerProduct}
-use Rattle.config.specs.declared.ReadMetric.{ReadMetric}
-use Rattle.config.specs.declared.ReadMetric.TheVariants as Metrics
 use Rattle.config.specs.declared.Config.{Config}
 
 -- 0 squared L2, 1 cosine, 2 inner product
@@ -21,15 +19,12 @@ is_cosine Cosine = true
 is_cosine InnerProduct = false
 
 -- any other number is refused by 5
-unfoldable pub metric_of : ℕ → Result Metric
+unfoldable pub metric_of : ℕ → Answer Metric
 metric_of v =
-    cond (eqb v 0) (answer SquaredL2)
-    (cond (eqb v 1) (answer Cosine)
-    (cond (eqb v 2) (answer InnerProduct)
-    (refused WrongMetric)))
-
-abbrev pub metric_told : Result Metric → ReadMetric
-metric_told = told (λ m. Metrics.Known m) (λ why. Metrics.Refused why)
+    cond (eqb v 0) (Ok SquaredL2)
+    (cond (eqb v 1) (Ok Cosine)
+    (cond (eqb v 2) (Ok InnerProduct)
+    (Err WrongMetric)))
 
 -- d, M, ef, seed, metric
 abbrev pub settings : ℕ → ℕ → ℕ → ℕ → Metric → Config
@@ -59,7 +54,7 @@ unfoldable pub in_range : ℕ → ℕ → ℕ → Bool
 in_range x low high = leb low x && leb x high
 
 -- 6, 7, 8: d, then M, then ef, whose lower bound is M
-unfoldable pub validate : Config → Result (Unit {0})
+unfoldable pub validate : Config → Answer (Unit {0})
 validate c = do
   _ ← refuse WrongDimensions (not (in_range c.dimensions min_dimensions max_dimensions))
   _ ← refuse WrongM (not (in_range c.m min_m max_m))

@@ -3,10 +3,9 @@
 #![tactic(auto)]
 
 ghost use Rattle.std.specs.Prelude.{◌≡◌};
-ghost use Rattle.refusal.specs.Refusal.{checked};
-ghost use Rattle.config.specs.Settings.{defaults, with_m, with_ef, with_seed, with_metric, in_range, validate as validate_of, metric_of, metric_told, metric_number, is_cosine, caption_limit};
+ghost use Rattle.config.specs.Settings.{defaults, with_m, with_ef, with_seed, with_metric, in_range, validate as validate_of, metric_of, metric_number, is_cosine, caption_limit};
 
-use refusal::{Checked, Refusal};
+use refusal::Refusal;
 
 // The number in the file is `Metric::number`.
 #[derive(Clone, Copy)]
@@ -16,22 +15,16 @@ pub enum Metric {
     InnerProduct,
 }
 
-// What a metric's number in a file is read as.
-#[derive(Clone, Copy)]
-pub enum ReadMetric {
-    Known(Metric),
-    Refused(Refusal),
-}
-
 impl Metric {
-    pub fn from_u32(v: u32) -> ReadMetric
-        ensures { result ≡ metric_told (metric_of v) }
+    #[tactic(auto, unfolding(crate::specs::Settings::metric_of))]
+    pub fn from_u32(v: u32) -> Result<Metric, Refusal>
+        ensures { result ≡ metric_of v }
     {
         match v {
-            0 => ReadMetric::Known(Metric::SquaredL2),
-            1 => ReadMetric::Known(Metric::Cosine),
-            2 => ReadMetric::Known(Metric::InnerProduct),
-            _ => ReadMetric::Refused(Refusal::WrongMetric),
+            0 => Ok(Metric::SquaredL2),
+            1 => Ok(Metric::Cosine),
+            2 => Ok(Metric::InnerProduct),
+            _ => Err(Refusal::WrongMetric),
         }
     }
 
@@ -48,11 +41,7 @@ impl Metric {
     pub fn is_cosine(self) -> bool
         ensures { result ≡ is_cosine self }
     {
-        match self {
-            Metric::SquaredL2 => false,
-            Metric::Cosine => true,
-            Metric::InnerProduct => false,
-        }
+        matches!(self, Metric::Cosine)
     }
 }
 
@@ -135,34 +124,30 @@ impl Config {
         self
     }
 
-    pub fn with_metric(self, metric: Metric) -> Self
+    pub fn with_metric(mut self, metric: Metric) -> Self
         ensures { result ≡ with_metric self metric }
     {
-        Self {
-            dimensions: self.dimensions,
-            m: self.m,
-            ef_construction: self.ef_construction,
-            seed: self.seed,
-            metric,
-        }
+        self.metric = metric;
+        self
     }
 
-    pub fn validate(self) -> Checked
-        ensures { result ≡ checked (validate_of self) }
+    #[tactic(auto, unfolding(crate::specs::Settings::validate))]
+    pub fn validate(self) -> Result<(), Refusal>
+        ensures { result ≡ validate_of self }
     {
         let d = self.dimensions;
         let m = self.m;
         let ef = self.ef_construction;
         if !in_range(d, Config::MIN_DIMENSIONS, Config::MAX_DIMENSIONS) {
-            return Checked::Refused(Refusal::WrongDimensions);
+            return Err(Refusal::WrongDimensions);
         }
         if !in_range(m, Config::MIN_M, Config::MAX_M) {
-            return Checked::Refused(Refusal::WrongM);
+            return Err(Refusal::WrongM);
         }
         if !in_range(ef, m, Config::MAX_EF) {
-            return Checked::Refused(Refusal::WrongEf);
+            return Err(Refusal::WrongEf);
         }
-        Checked::Passed
+        Ok(())
     }
 
     // How long a caption may be. Whoever tests a caption's length asks here.
@@ -174,11 +159,9 @@ impl Config {
 }
 
 // low..=high
+#[tactic(auto, unfolding(crate::specs::Settings::in_range))]
 pub fn in_range(x: usize, low: usize, high: usize) -> bool
     ensures { result ≡ in_range x low high }
 {
-    if x < low {
-        return false;
-    }
-    x <= high
+    low <= x && x <= high
 }

@@ -1,8 +1,7 @@
 // Writes what the settings, the packed words and the generator give at their edges; `stdout` was worked out apart from this code.
 #![tactic(auto)]
 
-use config::{Config, Metric, ReadMetric};
-use refusal::Checked;
+use config::{Config, Metric};
 use rows::{Id, Node, Operation, Row};
 use std::io;
 
@@ -10,15 +9,11 @@ fn show(rt: &impl Print, n: u64) -> io::Result<()> {
     println!(rt; "{n}")
 }
 
-fn yes(b: bool) -> u64 {
-    if b { 1 } else { 0 }
-}
-
 fn show_validity(rt: &impl Print, d: usize, m: usize, ef: usize) -> io::Result<()> {
     let c = Config::new(d).with_m(m).with_ef_construction(ef);
     match c.validate() {
-        Checked::Passed => show(rt, 0),
-        Checked::Refused(why) => show(rt, why.number() as u64),
+        Ok(()) => show(rt, 0),
+        Err(why) => show(rt, why.number() as u64),
     }
 }
 
@@ -39,8 +34,8 @@ fn show_settings(rt: &impl Print, seed: u64, metric: Metric) -> io::Result<()> {
 
 fn show_metric(rt: &impl Print, v: u32) -> io::Result<()> {
     match Metric::from_u32(v) {
-        ReadMetric::Known(k) => show(rt, k.number() as u64),
-        ReadMetric::Refused(why) => show(rt, why.number() as u64),
+        Ok(k) => show(rt, k.number() as u64),
+        Err(why) => show(rt, why.number() as u64),
     }
 }
 
@@ -68,15 +63,15 @@ fn metrics(rt: &impl Print) -> io::Result<()> {
 
 fn show_row(rt: &impl Print, word: u64) -> io::Result<()> {
     let r = Row::unpack(Id(7), word);
-    show(rt, yes(r.deleted))?;
-    show(rt, yes(r.from_log))?;
+    show(rt, u64::from(r.deleted))?;
+    show(rt, u64::from(r.from_log))?;
     show(rt, r.caption_length as u64)?;
     show(rt, r.at as u64)
 }
 
 fn show_operation(rt: &impl Print, word: u64) -> io::Result<()> {
     let o = Operation::unpack(Id(7), word);
-    show(rt, yes(o.put))?;
+    show(rt, u64::from(o.put))?;
     show(rt, o.caption_length as u64)?;
     show(rt, o.at as u64)
 }

@@ -1,7 +1,8 @@
 -- The largest magnitude decides both tests; and a turn of each loop that gathers it.
 -- Assumes nothing.
+use Rattle.std.specs.Prelude.{Err}
 use mathlib.Core.Path.{◌≡◌, refl, sym, ap, ap₂, ◌∙◌}
-use mathlib.Core.Bool.{Bool, true, false, ◌&&◌, cond}
+use mathlib.Core.Bool.{Bool, true, false, ◌&&◌, cond, and_assoc, and-true}
 use mathlib.Core.List.{List, [], ◌∷◌}
 use Prim.Native.Nat.{ℕ, suc, ◌+◌, ◌-◌, ◌*◌, ◌/◌, ◌%◌, ◌≤◌, ◌<◌, max}
 use native.Mathlib.Numerals.{add-one}
@@ -13,7 +14,7 @@ use lib.Seq.{drop-cons, drop-drop, drop-length}
 use Rattle.fields.specs.Fields.{num}
 use Rattle.coordinates.specs.Coordinates.{is_finite_bits, is_zero_bits, every_finite, every_zero, vector_of, patterns}
 use Rattle.coordinates.specs.Largest.{magnitude, largest, judged}
-use Rattle.refusal.specs.Refusal.{Result, refused, passes}
+use Rattle.refusal.specs.Refusal.{Answer, passes}
 use Rattle.refusal.specs.declared.Refusal.TheVariants.{NotFinite, VectorAllZero}
 
 -- two tests that imply each other
@@ -22,10 +23,6 @@ agree true true p q = refl
 agree true false p q = absurd (p tt)
 agree false true p q = absurd (q tt)
 agree false false p q = refl
-
-and_assoc : (a b c : Bool) → a && b && c ≡ a && (b && c)
-and_assoc true b c = refl
-and_assoc false b c = refl
 
 -- ---- one pattern
 pub finite_magnitude : (b : ℕ) → ltb (magnitude b) 2139095040 ≡ is_finite_bits b
@@ -40,11 +37,7 @@ finite_magnitude b =
 -- ---- all of them
 pub finite_largest : (m : ℕ) (bs : List ℕ) → ltb (largest m bs) 2139095040 ≡ ltb m 2139095040 && every_finite bs
 unfolding largest every_finite
-finite_largest m [] = one (ltb m 2139095040)
-  where
-    one : (a : Bool) → a ≡ a && true
-    one true = refl
-    one false = refl
+finite_largest m [] = sym (and-true (ltb m 2139095040))
 finite_largest m (b ∷ bs) =
     let x = magnitude b in
     let both : ltb (max m x) 2139095040 ≡ ltb m 2139095040 && ltb x 2139095040 =
@@ -60,11 +53,7 @@ finite_largest m (b ∷ bs) =
 
 pub zero_largest : (m : ℕ) (bs : List ℕ) → eqb (largest m bs) 0 ≡ eqb m 0 && every_zero bs
 unfolding largest every_zero
-zero_largest m [] = one (eqb m 0)
-  where
-    one : (a : Bool) → a ≡ a && true
-    one true = refl
-    one false = refl
+zero_largest m [] = sym (and-true (eqb m 0))
 zero_largest m (b ∷ bs) =
     let x = magnitude b in
     let both : eqb (max m x) 0 ≡ eqb m 0 && is_zero_bits b =
@@ -82,10 +71,10 @@ zero_largest m (b ∷ bs) =
 pub judged_largest : (cosine : Bool) (bs : List ℕ) → judged cosine (largest 0 bs) ≡ vector_of cosine bs
 unfolding vector_of
 judged_largest cosine bs =
-    ap₂ (λ (f z : Bool). cond f (cond z (cond cosine (refused VectorAllZero) passes) passes) (refused NotFinite)) (finite_largest 0 bs) (zero_largest 0 bs)
-    ∙ ap (λ (v : Result (Unit {0})). cond (every_finite bs) v (refused NotFinite)) (either cosine (every_zero bs))
+    ap₂ (λ (f z : Bool). cond f (cond z (cond cosine (Err VectorAllZero) passes) passes) (Err NotFinite)) (finite_largest 0 bs) (zero_largest 0 bs)
+    ∙ ap (λ (v : Answer (Unit {0})). cond (every_finite bs) v (Err NotFinite)) (either cosine (every_zero bs))
   where
-    either : (c z : Bool) → cond z (cond c (refused VectorAllZero) passes) passes ≡ cond (c && z) (refused VectorAllZero) passes
+    either : (c z : Bool) → cond z (cond c (Err VectorAllZero) passes) passes ≡ cond (c && z) (Err VectorAllZero) passes
     either true true = refl
     either true false = refl
     either false true = refl

@@ -1,6 +1,7 @@
 -- Laws of the patterns that bytes hold: their number, each one's place, and that written patterns are read again and read ones written again.
 -- Laws of the outcome: what good and the two refusals say of each coordinate.
 -- Assumes nothing.
+use Rattle.std.specs.Prelude.{Err}
 use mathlib.Core.Path.{◌≡◌, refl, sym, ap, ap₂, ◌∙◌}
 use mathlib.Core.Bool.{Bool, true, false, ◌&&◌, cond}
 use mathlib.Core.List.{List, [], ◌∷◌, ◌++◌, append_assoc}
@@ -13,7 +14,7 @@ use Rattle.fields.specs.Fields.{part, le, num, bytes, Bytes}
 use Rattle.fields.proofs.Parts.{drop_take, part_take, part_drop, part_split}
 use Rattle.fields.proofs.Numbers.{length_bytes, num_bytes, bytes_num, Bytes-nil, Bytes-append, Bytes-bytes, Bytes-drop}
 use Rattle.coordinates.specs.Coordinates.{is_finite_bits, is_zero_bits, every_finite, every_zero, vector_of, patterns, coordinate_bytes}
-use Rattle.refusal.specs.Refusal.{Result, refused, passes}
+use Rattle.refusal.specs.Refusal.{Answer, passes}
 use Rattle.refusal.specs.declared.Refusal.TheVariants.{NotFinite, VectorAllZero}
 
 pub length_patterns : (d : ℕ) (s : List ℕ) → length (patterns d s) ≡ d
@@ -104,11 +105,11 @@ zero_every [] h = refl
 zero_every (b ∷ bs) h = ap₂ ◌&&◌ (h 0 (omega arith)) (zero_every bs (λ k l. h (suc k) (omega arith)))
 
 -- 12 comes first; 13 only under cosine
-pub vector_not_finite : (cosine : Bool) (bs : List ℕ) → every_finite bs ≡ false → vector_of cosine bs ≡ (refused NotFinite)
+pub vector_not_finite : (cosine : Bool) (bs : List ℕ) → every_finite bs ≡ false → vector_of cosine bs ≡ (Err NotFinite)
 unfolding vector_of
 vector_not_finite cosine bs e = simp e
 
-pub vector_all_zero : (bs : List ℕ) → every_finite bs ≡ true → every_zero bs ≡ true → vector_of true bs ≡ (refused VectorAllZero)
+pub vector_all_zero : (bs : List ℕ) → every_finite bs ≡ true → every_zero bs ≡ true → vector_of true bs ≡ (Err VectorAllZero)
 unfolding vector_of
 vector_all_zero bs e z = simp (e, z)
 
@@ -123,8 +124,8 @@ vector_plain bs e = simp e
 
 pub vector_good : (cosine : Bool) (bs : List ℕ) → vector_of cosine bs ≡ passes → every_finite bs ≡ true
 unfolding vector_of
-vector_good cosine bs g = go (every_finite bs) (cond (cosine && every_zero bs) (refused VectorAllZero) passes) g
+vector_good cosine bs g = go (every_finite bs) (cond (cosine && every_zero bs) (Err VectorAllZero) passes) g
   where
-    go : (f : Bool) (v : Result (Unit {0})) → cond f v (refused NotFinite) ≡ passes → f ≡ true
+    go : (f : Bool) (v : Answer (Unit {0})) → cond f v (Err NotFinite) ≡ passes → f ≡ true
     go true v g = refl
     go false v g = absurd (let z : ◌≡◌ {A = ℕ} 0 1 = cc in omega arith)

@@ -1,7 +1,7 @@
 -- The test of a vector by the bits of its coordinates: refusal 12 where one is not finite, then 13 where the metric is cosine and each is +0 or -0.
-use Rattle.std.specs.Prelude.{ℕ, zero, suc, ◌/◌, ◌%◌, Bool, true, not, ◌&&◌, cond, List, [], ◌∷◌, ◌++◌, eqb, drop}
+use Rattle.std.specs.Prelude.{ℕ, zero, suc, ◌/◌, ◌%◌, Bool, true, not, ◌&&◌, cond, List, [], ◌∷◌, ◌++◌, eqb, drop, Err}
 use Rattle.fields.specs.Fields.{num, bytes}
-use Rattle.refusal.specs.Refusal.{Result, refused, passes}
+use Rattle.refusal.specs.Refusal.{Answer, passes}
 use Rattle.refusal.specs.declared.Refusal.TheVariants.{NotFinite, VectorAllZero}
 
 -- the exponent's field is not all ones: neither an infinity nor a NaN
@@ -21,8 +21,8 @@ unfoldable pub every_zero : List ℕ → Bool
 every_zero [] = true
 every_zero (b ∷ bs) = is_zero_bits b && every_zero bs
 
-unfoldable pub vector_of : Bool → List ℕ → Result (Unit {0})
-vector_of cosine bs = cond (every_finite bs) (cond (cosine && every_zero bs) (refused VectorAllZero) passes) (refused NotFinite)
+unfoldable pub vector_of : Bool → List ℕ → Answer (Unit {0})
+vector_of cosine bs = cond (every_finite bs) (cond (cosine && every_zero bs) (Err VectorAllZero) passes) (Err NotFinite)
 
 -- over bytes: d patterns of 4 bytes each, from the front
 unfoldable pub patterns : ℕ → List ℕ → List ℕ
@@ -34,5 +34,5 @@ unfoldable pub coordinate_bytes : List ℕ → List ℕ
 coordinate_bytes [] = []
 coordinate_bytes (b ∷ bs) = bytes 4 b ++ coordinate_bytes bs
 
-abbrev pub coordinates_of : Bool → ℕ → List ℕ → Result (Unit {0})
+abbrev pub coordinates_of : Bool → ℕ → List ℕ → Answer (Unit {0})
 coordinates_of cosine d s = vector_of cosine (patterns d s)

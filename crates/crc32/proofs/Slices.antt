@@ -10,7 +10,7 @@ use lib.Bits.{bit_xor, xor_comm, xor_shr, xor_zero_r}
 use lib.ListN.{length, get_or, take, drop, take-append-drop, length-drop, drop_of_length-le}
 use lib.Seq.{drop-cons, drop-drop, take-add, take_all, length-take-le}
 use Rattle.elimination.proofs.Xor.{xor_reversed}
-use Rattle.crc32.specs.Crc.{all_ones, bits_in, bytes_in, crc_of}
+use Rattle.crc32.specs.Crc.{bits_in, bytes_in}
 use Rattle.crc32.specs.Steps.{shifts, turns}
 use Rattle.crc32.proofs.Shift.{shifts_split, shifts_add, turns_xor, turns_add, turns_zero, turns_split, rounds_halves}
 use Rattle.crc32.proofs.Bytes.{bits_in_lem, bytes_in_append, bytes_in_xor, bytes_in_start}
@@ -159,15 +159,6 @@ no_more : (i c : ℕ) (s : List ℕ) → length s ≤ i → bytes_in c (drop i s
 unfolding bytes_in
 no_more i c s h = ap (bytes_in c) (drop_of_length-le s h)
 
--- a slice that is made anew is the slice
-pub made_anew : (c : ℕ) (s : List ℕ) → bytes_in c (take (length s - 0) s) ≡ bytes_in c s
-made_anew c s = ap (bytes_in c) (take_all (length s - 0) s (omega arith))
-
--- what starts as all ones and ends complemented is the CRC
-pub crc_finished : (s : List ℕ) (first last r : ℕ) → first ≡ all_ones → last ≡ bytes_in first s → r ≡ bit_xor last all_ones → r ≡ crc_of s
-unfolding crc_of
-crc_finished s first last r f l e = e ∙ ap (λ (x : ℕ). bit_xor x all_ones) (l ∙ ap (λ (x : ℕ). bytes_in x s) f)
-
 -- a run over the bytes of s from `at` on, which has come to place i: its rest is the whole run
 pub record Underway (c at : ℕ) (s : List ℕ) (here i : ℕ) : Type 0 where
   pub within : i ≤ length s
@@ -187,3 +178,10 @@ module _ {c at : ℕ} {s : List ℕ} {here i : ℕ} (u : Underway c at s here i)
 
   pub underway_out : length s ≤ i → here ≡ bytes_in c (drop at s)
   underway_out h = sym (no_more i here s h) ∙ u.run
+
+-- the bytes from `at` on, as the part of a slice that is lent is told
+abbrev pub from : ℕ → List ℕ → List ℕ
+from at s = take (length s - at) (drop at s)
+
+pub underway_past : (c at : ℕ) (s : List ℕ) (here i : ℕ) → Underway c 0 (from at s) here i → length (from at s) ≤ i → here ≡ bytes_in c (drop at s)
+underway_past c at s here i u h = underway_out u h ∙ ap (bytes_in c) (take_all (length s - at) (drop at s) (omega (arith, length-drop at s)))

@@ -81,6 +81,7 @@ fn eight(t: &[u32; 256], c: u32, s: &[u8], at: usize) -> u32
 }
 
 // Internal: the bytes from `at` on go into c, four at a time as far as they go.
+#[tactic(auto, using(crate::proofs::Slices::underway_four))]
 fn fours(t: &[u32; 256], c: u32, s: &[u8], at: usize) -> u32
     requires at_in_bounds { at ≤ length s.now }
     requires digits { Digits 4 16 t.now }
@@ -96,6 +97,7 @@ fn fours(t: &[u32; 256], c: u32, s: &[u8], at: usize) -> u32
 }
 
 // Internal: the bytes go into c, eight at a time as far as they go.
+#[tactic(auto, using(crate::proofs::Slices::underway_on))]
 fn eights(t: &[u32; 256], c: u32, s: &[u8]) -> u32
     requires { Digits 4 16 t.now }
     ensures { result ≡ bytes_in c s.now }

@@ -18,6 +18,7 @@ const ALL_ONES: u32 = 0xffff_ffff;
 // From here on elimination pays: it ends with 2400 bytes by the table.
 const LONG: usize = 4096;
 
+#[tactic(auto, unfolding(crate::specs::Crc::crc_of))]
 pub fn crc32(bytes: &[u8]) -> u32
     ensures { result ≡ crc_of bytes.now }
 {
@@ -70,6 +71,7 @@ pub fn tables() -> [u32; 4096]
 }
 
 // Internal: `t` is what `tables` gives.
+#[tactic(auto, unfolding(crate::specs::Crc::crc_of))]
 pub fn crc32_with(t: &[u32; 4096], bytes: &[u8]) -> u32
     requires { Rows 16 t.now }
     ensures { result ≡ crc_of bytes.now }

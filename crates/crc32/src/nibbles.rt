@@ -29,12 +29,14 @@ fn nibble(k: u32) -> u32
     }
 }
 
+#[tactic(auto, using(crate::proofs::Shift::shifts_split))]
 fn half(c: u32) -> u32
     ensures { result ≡ shifts 4 c }
 {
     nibble(c % 16) ^ (c / 16)
 }
 
+#[tactic(auto, using(crate::proofs::Slices::byte_halves))]
 fn byte(c: u32, b: u8) -> u32
     ensures { result ≡ bits_in 8 c b }
 {
@@ -42,15 +44,14 @@ fn byte(c: u32, b: u8) -> u32
 }
 
 // Internal: the bytes from `at` on go into the register c.
+#[tactic(auto, using(crate::proofs::Slices::underway_one, crate::proofs::Slices::underway_past))]
 pub fn update(c: u32, bytes: &[u8], at: usize) -> u32
     requires { at ≤ length bytes.now }
     ensures { result ≡ bytes_in c (drop at bytes.now) }
 {
     let mut c = c;
-    let mut i = at;
-    while i < bytes.len() {
-        c = byte(c, bytes[i]);
-        i += 1;
+    for &b in &bytes[at..] {
+        c = byte(c, b);
     }
     c
 }

@@ -15,6 +15,7 @@ fn look(t: &[u32; 4096], row: usize, c: u32, b: u8) -> u32
 }
 
 // Internal: one byte goes into c.
+#[tactic(auto, using(crate::proofs::Slices::byte_split), unfolding(crate::specs::Steps::turns))]
 fn one(t: &[u32; 4096], c: u32, b: u8) -> u32
     requires { Rows 16 t.now }
     ensures { result ≡ bits_in 8 c b }
@@ -46,21 +47,21 @@ fn sixteen(t: &[u32; 4096], c: u32, s: &[u8], at: usize) -> u32
 }
 
 // Internal: the bytes from `at` on go into c, one at a time.
+#[tactic(auto, using(crate::proofs::Slices::underway_one, crate::proofs::Slices::underway_past))]
 fn ones(t: &[u32; 4096], c: u32, s: &[u8], at: usize) -> u32
     requires at_in_bounds { at ≤ length s.now }
     requires rows { Rows 16 t.now }
     ensures { result ≡ bytes_in c (drop at s.now) }
 {
     let mut c = c;
-    let mut i = at;
-    while i < s.len() {
-        c = one(t, c, s[i]);
-        i += 1;
+    for &b in &s[at..] {
+        c = one(t, c, b);
     }
     c
 }
 
 // Internal: the same, four at a time as far as they go.
+#[tactic(auto, using(crate::proofs::Slices::underway_four))]
 fn fours(t: &[u32; 4096], c: u32, s: &[u8], at: usize) -> u32
     requires at_in_bounds { at ≤ length s.now }
     requires rows { Rows 16 t.now }
@@ -76,6 +77,7 @@ fn fours(t: &[u32; 4096], c: u32, s: &[u8], at: usize) -> u32
 }
 
 // Internal: the bytes go into c, sixteen at a time as far as they go.
+#[tactic(auto, using(crate::proofs::Slices::underway_on))]
 pub fn sixteens(t: &[u32; 4096], c: u32, s: &[u8]) -> u32
     requires { Rows 16 t.now }
     ensures { result ≡ bytes_in c s.now }

@@ -59,12 +59,10 @@ fn patterns(rt: &impl Print, t: &[u32; 4096]) -> io::Result<()>
 
 // Byte i is 7 * i + 3 modulo 256.
 fn fill(s: &mut [u8]) {
-    let mut i: usize = 0;
     let mut b: u8 = 3;
-    while i < s.len() {
-        s[i] = b;
-        b = std::num::wrapping_add_u8(b, 7);
-        i += 1;
+    for byte in s {
+        *byte = b;
+        b = b.wrapping_add(7);
     }
 }
 
@@ -72,12 +70,10 @@ fn fill(s: &mut [u8]) {
 fn lengths(rt: &impl Print, t: &[u32; 4096], s: &[u8], from: usize, to: usize) -> io::Result<()>
     requires { Rows 16 t.now }
 {
-    let mut n = from;
-    while n < to {
+    for n in from..to {
         if n <= s.len() {
             show(rt, t, &s[..n])?;
         }
-        n += 1;
     }
     Ok(())
 }

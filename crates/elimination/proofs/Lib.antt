@@ -1,4 +1,3 @@
 pub mod Xor
 pub mod Run
 pub mod Fold
-pub mod Places

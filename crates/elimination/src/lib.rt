@@ -15,10 +15,8 @@ fn block(v: &mut [u8; 10592], n: usize, s: &[u8], at: usize)
     ensures v_len_2 { length v.new ≡ 10592 }
     ensures passed { Passed n v.old (drop at s.now) v.new (drop (at + n) s.now) }
 {
-    let mut j: usize = 0;
-    while j < n {
+    for j in 0..n {
         v[2400 + j] = s[at + j] ^ (v[1240 + j] ^ (v[936 + j] ^ (v[712 + j] ^ v[j])));
-        j += 1;
     }
 }
 
@@ -29,11 +27,7 @@ fn keep(v: &mut [u8; 10592], n: usize)
     ensures v_len_2 { length v.new ≡ 10592 }
     ensures v_after { take 2400 v.new ≡ take 2400 (drop n v.old) }
 {
-    let mut j: usize = 0;
-    while j < 2400 {
-        v[j] = v[n + j];
-        j += 1;
-    }
+    v.copy_within(n..n + 2400, 0);
 }
 
 // Internal: n bytes of s from `at` on are eliminated.
@@ -82,11 +76,7 @@ fn clear(v: &mut [u8; 10592])
     ensures v_unchanged { take 2400 v.new ≡ take 2400 v.old }
     ensures clear { Clear v.new }
 {
-    let mut j: usize = 0;
-    while j < 2400 {
-        v[2400 + j] = 0;
-        j += 1;
-    }
+    v[2400..4800].fill(0);
 }
 
 // Internal: what the last 2400 bytes, those of s from `at` on, have become when the window is eliminated too.
@@ -97,10 +87,8 @@ fn last(v: &[u8; 10592], s: &[u8], at: usize, out: &mut [u8; 2400])
     ensures out_len_2 { length out.new ≡ 2400 }
     ensures last { Last v.now (drop at s.now) out.new }
 {
-    let mut j: usize = 0;
-    while j < 2400 {
+    for j in 0..2400 {
         out[j] = s[at + j] ^ (v[1240 + j] ^ (v[936 + j] ^ (v[712 + j] ^ v[j])));
-        j += 1;
     }
 }
 

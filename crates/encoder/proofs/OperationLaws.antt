@@ -1,4 +1,5 @@
 -- One operation: how long its fields are, as what it is checked, and what is known of it once it is encoded.
+use Rattle.std.specs.Prelude.{Ok, Err}
 use Prim.Native.Nat.{ℕ, suc, ◌+◌, ◌≤◌}
 use mathlib.Core.Path.{◌≡◌, refl, sym, ap, ◌∙◌}
 use mathlib.Core.Bool.{Bool, true, false, not, cond, true≢false}
@@ -18,9 +19,8 @@ use Rattle.config.specs.declared.Config.{Config}
 use Rattle.layout.specs.Layout.{item_length, record_length, id_length}
 use Rattle.rows.specs.Rows.{operation_of, operation_from}
 use Rattle.rows.specs.declared.Operation.{Operation}
-use Rattle.refusal.specs.Refusal.{Result, answer, refused, ◌>>=◌, refuse, size_told}
+use Rattle.refusal.specs.Refusal.{Answer, ◌>>=◌, refuse, size_told}
 use Rattle.refusal.specs.declared.Refusal.{Refusal}
-use Rattle.refusal.specs.declared.Measured.TheVariants as Measures
 use Rattle.refusal.specs.declared.Refusal.TheVariants.{NotUtf8}
 use Rattle.meaning.specs.Item.{coordinates}
 use Rattle.meaning.specs.Encoder.{Asked, is_put, asked_length, asked_start, Tagged, put_fields, put_for, encode_put, encode_delete, encode_operation}
@@ -58,7 +58,7 @@ module _ (d : ℕ) (coords captions : List ℕ) (o : Operation) where
 
 -- ---- as the code reads it
 module _ (c : Config) (coords captions : List ℕ) (o : Operation) (word : ℕ) (is : o ≡ operation_of o.id.0 word) where
-  abbrev by_put : Operation → Result Tagged
+  abbrev by_put : Operation → Answer Tagged
   by_put x =
       cond x.put (put_for c (take c.dimensions coords) captions o.id.0 x.caption_length x.at) (encode_delete (record { id = o.id.0; word = word }))
 
@@ -75,21 +75,21 @@ module _ (c : Config) (coords captions : List ℕ) (o : Operation) (word : ℕ) 
   delete_read t = as_read ∙ ap (λ (b : Bool). cond b (put_for c (take c.dimensions coords) captions o.id.0 o.caption_length o.at) (encode_delete (record { id = o.id.0; word = word }))) t
 
 -- a put of which only the caption's text is left to test
-pub put_caption : (c : Config) (coords captions : List ℕ) (id n start : ℕ) → n ≤ max_metadata → start + n ≤ length captions → coordinates c (coordinate_bytes coords) ≡ answer tt
+pub put_caption : (c : Config) (coords captions : List ℕ) (id n start : ℕ) → n ≤ max_metadata → start + n ≤ length captions → coordinates c (coordinate_bytes coords) ≡ Ok tt
     → size_told tagged_length (put_for c coords captions id n start) ≡ caption_told (length coords) (part captions start n)
 put_caption c coords captions id n start short inside good =
     let text = part captions start n in
     let e : Tagged = record { tag = 1; fields = put_fields id coords n text } in
     let size : suc (length e.fields) ≡ record_length (length coords) (length text) = omega (arith, length_fields id n coords text) in
-    simp (le-ltb _ _ short, le-ltb _ _ inside, good) (last (is_utf8 text) e ∙ ap (λ (m : ℕ). cond (is_utf8 text) (Measures.Length m) (Measures.Refused NotUtf8)) size)
+    simp (le-ltb _ _ short, le-ltb _ _ inside, good) (last (is_utf8 text) e ∙ ap (λ (m : ℕ). cond (is_utf8 text) (Ok m) (Err NotUtf8)) size)
   where
     last : (t : Bool) (e : Tagged)
-        → size_told tagged_length (refuse NotUtf8 (not t) >>= (λ _. answer e)) ≡ cond t (Measures.Length (suc (length e.fields))) (Measures.Refused NotUtf8)
+        → size_told tagged_length (refuse NotUtf8 (not t) >>= (λ _. Ok e)) ≡ cond t (Ok (suc (length e.fields))) (Err NotUtf8)
     last true e = refl
     last false e = refl
 
 pub put_vector : (c : Config) (coords captions : List ℕ) (id n start : ℕ) (why : Refusal) → n ≤ max_metadata → start + n ≤ length captions
-    → coordinates c (coordinate_bytes coords) ≡ refused why → put_for c coords captions id n start ≡ refused why
+    → coordinates c (coordinate_bytes coords) ≡ Err why → put_for c coords captions id n start ≡ Err why
 put_vector c coords captions id n start why short inside bad = simp (le-ltb _ _ short, le-ltb _ _ inside, bad)
 
 -- ---- once it is encoded
@@ -107,7 +107,7 @@ module _ (c : Config) (coords captions : List ℕ) (a : Asked) (e : Tagged) wher
   abbrev o : Operation
   o = operation_of a.id a.word
 
-  put_encodes : is_put a ≡ true → encode_put c (take c.dimensions coords) captions a ≡ answer e → Encodes c coords captions (operation_of a.id a.word) e
+  put_encodes : is_put a ≡ true → encode_put c (take c.dimensions coords) captions a ≡ Ok e → Encodes c coords captions (operation_of a.id a.word) e
   put_encodes t h =
       let cs = take c.dimensions coords in
       let n = asked_length a in
@@ -120,7 +120,7 @@ module _ (c : Config) (coords captions : List ℕ) (a : Asked) (e : Tagged) wher
         inside = λ _. p.inside;
       }
 
-  delete_encodes : is_put a ≡ false → encode_delete a ≡ answer e → Encodes c coords captions (operation_of a.id a.word) e
+  delete_encodes : is_put a ≡ false → encode_delete a ≡ Ok e → Encodes c coords captions (operation_of a.id a.word) e
   delete_encodes t h =
       let is = (delete_encoded a e h).is in
       record {
@@ -130,10 +130,10 @@ module _ (c : Config) (coords captions : List ℕ) (a : Asked) (e : Tagged) wher
         inside = λ p. absurd (true≢false (sym p ∙ t));
       }
 
-  pub operation_encodes : encode_operation c coords captions a ≡ answer e → Encodes c coords captions (operation_of a.id a.word) e
+  pub operation_encodes : encode_operation c coords captions a ≡ Ok e → Encodes c coords captions (operation_of a.id a.word) e
   operation_encodes h = go (is_put a) refl h
     where
-      go : (t : Bool) → is_put a ≡ t → cond t (encode_put c (take c.dimensions coords) captions a) (encode_delete a) ≡ answer e
+      go : (t : Bool) → is_put a ≡ t → cond t (encode_put c (take c.dimensions coords) captions a) (encode_delete a) ≡ Ok e
           → Encodes c coords captions (operation_of a.id a.word) e
       go true t h = put_encodes t h
       go false t h = delete_encodes t h

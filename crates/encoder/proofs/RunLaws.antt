@@ -1,4 +1,5 @@
 -- The operations from place k on, with the coordinates from `at` on: what is left after one of them, to check and to write.
+use Rattle.std.specs.Prelude.{Ok, Err}
 use Prim.Native.Nat.{ℕ, suc, ◌+◌, ◌*◌, ◌-◌, ◌/◌, ◌≤◌, ◌<◌}
 use mathlib.Core.Path.{◌≡◌, refl, sym, ap, ap₂, subst, ◌∙◌}
 use mathlib.Core.Bool.{Bool, true, false, cond}
@@ -17,10 +18,8 @@ use Rattle.config.specs.declared.Config.{Config}
 use Rattle.layout.specs.declared.Shape.TheVariants.{Single}
 use Rattle.rows.specs.Rows.{operation_at, operation_of}
 use Rattle.rows.specs.declared.Operation.{Operation}
-use Rattle.refusal.specs.Refusal.{Result, answer, refused, ◌>>=◌, size_told}
+use Rattle.refusal.specs.Refusal.{Answer, ◌>>=◌, size_told}
 use Rattle.refusal.specs.declared.Refusal.{Refusal}
-use Rattle.refusal.specs.declared.Measured.{Measured}
-use Rattle.refusal.specs.declared.Measured.TheVariants as Measures
 use Rattle.refusal.proofs.Results.{answer_injective, passed, go_on, give_up, sized_is}
 use Rattle.meaning.specs.Encoder.{Asked, asked_from, asked, is_put, put_count, Tagged, encode_operation, encode_all, tagged_bytes, payload_bytes}
 use Rattle.encoder.specs.Requests.{asked_at, taken, tag_of, fields_of, tagged_length, most_tagged, Fits, tagged_of, Accepted}
@@ -94,7 +93,7 @@ module _ (words : List ℕ) (k : ℕ) (h : k < length words / 2) where
 pub rest_is : (at : ℕ) (l : List ℕ) → take (length l - at) (drop at l) ≡ drop at l
 rest_is at l = take_all (length l - at) (drop at l) (le_of_eq (length-drop at l))
 
-abbrev pub run_from : Config → List ℕ → List ℕ → List ℕ → ℕ → ℕ → Result (List Tagged)
+abbrev pub run_from : Config → List ℕ → List ℕ → List ℕ → ℕ → ℕ → Answer (List Tagged)
 run_from c words coords captions at k = encode_all c (drop at coords) captions (asked_past words k)
 
 drop_taken : (t : Bool) (d at : ℕ) (l : List ℕ) → cond t (drop d (drop at l)) (drop at l) ≡ drop (at + taken t d) l
@@ -102,22 +101,22 @@ drop_taken true d at l = drop-drop d at l
 drop_taken false d at l = let e : at ≡ at + 0 = omega arith in ap (λ (k : ℕ). drop k l) e
 
 -- one operation in front of the rest
-behind : (sum : ℕ) (e : Tagged) (r : Result (List Tagged))
-    → size_told (λ es. sum + length (tagged_bytes es)) (r >>= λ rest. answer (e ∷ rest)) ≡ size_told (λ es. sum + tagged_length e + length (tagged_bytes es)) r
+behind : (sum : ℕ) (e : Tagged) (r : Answer (List Tagged))
+    → size_told (λ es. sum + length (tagged_bytes es)) (r >>= λ rest. Ok (e ∷ rest)) ≡ size_told (λ es. sum + tagged_length e + length (tagged_bytes es)) r
 unfolding tagged_bytes
-behind sum e (answer es) = ap Measures.Length (omega (arith, length-append e.fields (tagged_bytes es)))
-behind sum e (refused why) = refl
+behind sum e (Ok es) = ap Ok (omega (arith, length-append e.fields (tagged_bytes es)))
+behind sum e (Err why) = refl
 
 module _ (c : Config) (words coords captions : List ℕ) where
   pub run_start : run_from c words coords captions 0 0 ≡ encode_all c coords captions (asked words)
   run_start = ap (encode_all c coords captions) (asked_start_lem words)
 
-  pub run_end : (at k : ℕ) → length words / 2 ≤ k → run_from c words coords captions at k ≡ answer []
+  pub run_end : (at k : ℕ) → length words / 2 ≤ k → run_from c words coords captions at k ≡ Ok []
   unfolding encode_all
   run_end at k h = ap (encode_all c (drop at coords) captions) (asked_end words k h)
 
-  abbrev then : ℕ → ℕ → Tagged → Result (List Tagged)
-  then at k this = run_from c words coords captions at k >>= λ rest. answer (this ∷ rest)
+  abbrev then : ℕ → ℕ → Tagged → Answer (List Tagged)
+  then at k this = run_from c words coords captions at k >>= λ rest. Ok (this ∷ rest)
 
   run_more : (at k : ℕ) → k < length words / 2
       → run_from c words coords captions at k
@@ -126,24 +125,24 @@ module _ (c : Config) (words coords captions : List ℕ) where
   run_more at k h =
       let o = asked_at words k in
       ap (encode_all c (drop at coords) captions) (asked_more words k h)
-      ∙ ap (λ (l : List ℕ). encode_operation c (drop at coords) captions o >>= λ this. encode_all c l captions (asked_past words (k + 1)) >>= λ rest. answer (this ∷ rest))
+      ∙ ap (λ (l : List ℕ). encode_operation c (drop at coords) captions o >>= λ this. encode_all c l captions (asked_past words (k + 1)) >>= λ rest. Ok (this ∷ rest))
       (drop_taken (is_put o) c.dimensions at coords)
 
   -- ---- checked: behind `sum` bytes
-  abbrev pub measured_from : ℕ → ℕ → ℕ → Measured
+  abbrev pub measured_from : ℕ → ℕ → ℕ → Answer ℕ
   measured_from sum at k = size_told (λ es. sum + length (tagged_bytes es)) (run_from c words coords captions at k)
 
-  pub measured_end : (sum at k : ℕ) → length words / 2 ≤ k → measured_from sum at k ≡ Measures.Length sum
+  pub measured_end : (sum at k : ℕ) → length words / 2 ≤ k → measured_from sum at k ≡ Ok sum
   unfolding tagged_bytes
   measured_end sum at k h =
       let e : sum + 0 ≡ sum = omega arith in
-      ap (size_told (λ es. sum + length (tagged_bytes es))) (run_end at k h) ∙ ap Measures.Length e
+      ap (size_told (λ es. sum + length (tagged_bytes es))) (run_end at k h) ∙ ap Ok e
 
   module _ (sum at k : ℕ) (h : k < length words / 2) where
-    pub measured_refused : (why : Refusal) → encode_operation c (drop at coords) captions (asked_at words k) ≡ refused why → measured_from sum at k ≡ Measures.Refused why
+    pub measured_refused : (why : Refusal) → encode_operation c (drop at coords) captions (asked_at words k) ≡ Err why → measured_from sum at k ≡ Err why
     measured_refused why e = ap (size_told (λ es. sum + length (tagged_bytes es))) (run_more at k h ∙ give_up _ _ why e)
 
-    pub measured_more : (e : Tagged) → encode_operation c (drop at coords) captions (asked_at words k) ≡ answer e
+    pub measured_more : (e : Tagged) → encode_operation c (drop at coords) captions (asked_at words k) ≡ Ok e
         → measured_from sum at k ≡ measured_from (sum + tagged_length e) (at + taken (is_put (asked_at words k)) c.dimensions) (k + 1)
     measured_more e is =
         ap (size_told (λ es. sum + length (tagged_bytes es))) (run_more at k h ∙ go_on _ _ e is)
@@ -163,7 +162,7 @@ enough_start d m words e =
 
 module _ (c : Config) (words coords captions : List ℕ) where
   pub measuring_next : (sum at k m : ℕ) (o : Operation) → c.dimensions ≤ max_dimensions → Measuring c words coords captions sum at k → k < length words / 2 → o ≡ operation_at words k
-      → size_told tagged_length (encode_operation c (drop at coords) captions (asked_at words k)) ≡ Measures.Length m
+      → size_told tagged_length (encode_operation c (drop at coords) captions (asked_at words k)) ≡ Ok m
       → (m ≤ most_tagged) × Measuring c words coords captions (sum + m) (at + taken o.put c.dimensions) (k + 1)
   unfolding operation_at
   measuring_next sum at k m o valid l h u e =
@@ -188,7 +187,7 @@ module _ (c : Config) (words coords captions : List ℕ) where
 pub record Left (c : Config) (words coords captions o out : List ℕ) (at from k : ℕ) : Type 0 where
   pub done : List ℕ
   pub left : List Tagged
-  pub left_is : run_from c words coords captions from k ≡ answer left
+  pub left_is : run_from c words coords captions from k ≡ Ok left
   pub all_is : done ++ tagged_bytes left ≡ tagged_bytes (tagged_of c words coords captions)
   pub at_is : at ≡ length done
   pub out_is : out ≡ placed 0 done o

@@ -1,5 +1,5 @@
 -- What the code's parts speak of: one operation as it is written, and a request whose operations are accepted.
-use Rattle.std.specs.Prelude.{ℕ, suc, ◌+◌, ◌*◌, ◌≤◌, ◌≡◌, Bool, true, cond, List, [], length, take, get_or}
+use Rattle.std.specs.Prelude.{ℕ, suc, ◌+◌, ◌*◌, ◌≤◌, ◌≡◌, Bool, true, cond, List, [], length, take, get_or, Ok, Err}
 use Rattle.utf8.specs.Utf8.{is_utf8}
 use Rattle.config.specs.Limits.{max_dimensions, max_metadata}
 use Rattle.config.specs.declared.Config.{Config}
@@ -8,9 +8,7 @@ use Rattle.layout.specs.declared.Shape.{Shape}
 use Rattle.layout.specs.declared.Shape.TheVariants.{Single, Batch}
 use Rattle.fields.specs.Fields.{part, bytes}
 use Rattle.rows.specs.declared.Operation.{Operation}
-use Rattle.refusal.specs.Refusal.{Result, answer, refused}
-use Rattle.refusal.specs.declared.Measured.{Measured}
-use Rattle.refusal.specs.declared.Measured.TheVariants as Measures
+use Rattle.refusal.specs.Refusal.{Answer}
 use Rattle.refusal.specs.declared.Refusal.TheVariants.{NotUtf8}
 use Rattle.meaning.specs.Encoder.{Asked, asked, put_count, Tagged, put_fields, encode_all}
 
@@ -40,8 +38,8 @@ abbrev pub most_tagged : ℕ
 most_tagged = 1 + id_length + item_length max_dimensions max_metadata
 
 -- a put of d coordinates with this caption, once nothing else is left to refuse
-abbrev pub caption_told : ℕ → List ℕ → Measured
-caption_told d caption = cond (is_utf8 caption) (Measures.Length (record_length d (length caption))) (Measures.Refused NotUtf8)
+abbrev pub caption_told : ℕ → List ℕ → Answer ℕ
+caption_told d caption = cond (is_utf8 caption) (Ok (record_length d (length caption))) (Err NotUtf8)
 
 -- what the writer of a put is handed: d coordinates, and a caption in its buffer that is not too long
 pub record PutFits (d : ℕ) (coords captions : List ℕ) (o : Operation) : Type 0 where
@@ -58,9 +56,9 @@ abbrev pub head_length : Shape → ℕ
 head_length Single = sequence_length
 head_length Batch = batch_head
 
-abbrev pub tagged_in : Result (List Tagged) → List Tagged
-tagged_in (answer es) = es
-tagged_in (refused why) = []
+abbrev pub tagged_in : Answer (List Tagged) → List Tagged
+tagged_in (Ok es) = es
+tagged_in (Err why) = []
 
 -- the operations of a request that is accepted
 abbrev pub tagged_of : Config → List ℕ → List ℕ → List ℕ → List Tagged
@@ -69,4 +67,4 @@ tagged_of c words coords captions = tagged_in (encode_all c coords captions (ask
 pub record Accepted (c : Config) (words coords captions : List ℕ) : Type 0 where
   pub few : c.dimensions ≤ max_dimensions
   pub enough : length coords ≡ c.dimensions * put_count (asked words)
-  pub tagged_is : encode_all c coords captions (asked words) ≡ answer (tagged_of c words coords captions)
+  pub tagged_is : encode_all c coords captions (asked words) ≡ Ok (tagged_of c words coords captions)

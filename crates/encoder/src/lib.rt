@@ -10,14 +10,14 @@ ghost use Rattle.config.specs.Limits.{max_dimensions, max_metadata, max_batch_op
 ghost use Rattle.layout.specs.Layout.{id_length, item_length, batch_head};
 ghost use Rattle.fields.specs.Placed.{placed};
 ghost use Rattle.rows.specs.Rows.{OperationFits, operation_of};
-ghost use Rattle.refusal.specs.Refusal.{passes, checked, size_told, written_told};
+ghost use Rattle.refusal.specs.Refusal.{passes, size_told, written_told};
 ghost use Rattle.meaning.specs.Encoder.{asked, put_count, put_fields, put_for, encode_operation as encode_one, encode_all, tagged_bytes, payload_bytes, words_checked, encode_operations, encode_valid};
 ghost use Rattle.meaning.specs.Calls.{output_after, encode_call};
 ghost use Rattle.encoder.specs.Requests.{taken as taken_by, tag_of, fields_of, tagged_length, caption_told, Fits, head_length, tagged_of, Accepted};
 
 use config::Config;
 use layout::Shape;
-use refusal::{Checked, Measured, Refusal, Written};
+use refusal::Refusal;
 use rows::Operation;
 
 // One operation in a frame of its own.
@@ -28,7 +28,7 @@ pub fn encode_frame(
     coordinates: &[u32],
     captions: &[u8],
     out: &mut [u8],
-) -> Written
+) -> Result<usize, Refusal>
     ensures value { result ≡ written_told (encode_call Shape.Single config sequence operations.now coordinates.now captions.now out.old) }
     ensures out_after { out.new ≡ output_after out.old (encode_call Shape.Single config sequence operations.now coordinates.now captions.now out.old) }
 {
@@ -50,7 +50,7 @@ pub fn encode_batch(
     coordinates: &[u32],
     captions: &[u8],
     out: &mut [u8],
-) -> Written
+) -> Result<usize, Refusal>
     ensures value { result ≡ written_told (encode_call Shape.Batch config sequence operations.now coordinates.now captions.now out.old) }
     ensures out_after { out.new ≡ output_after out.old (encode_call Shape.Batch config sequence operations.now coordinates.now captions.now out.old) }
 {
@@ -66,6 +66,7 @@ pub fn encode_batch(
 }
 
 // ---- the tests of a request, in document 01's order
+#[tactic(auto, unfolding(meaning::specs::Encoder::encode))]
 fn encode(
     shape: Shape,
     config: Config,
@@ -74,25 +75,24 @@ fn encode(
     coordinates: &[u32],
     captions: &[u8],
     out: &mut [u8],
-) -> Written
+) -> Result<usize, Refusal>
     ensures value { result ≡ written_told (encode_call shape config sequence operations.now coordinates.now captions.now out.old) }
     ensures out_after { out.new ≡ output_after out.old (encode_call shape config sequence operations.now coordinates.now captions.now out.old) }
 {
-    match config.validate() {
-        Checked::Passed => encode_valid(
-            shape,
-            config,
-            sequence,
-            operations,
-            coordinates,
-            captions,
-            out,
-        ),
-        Checked::Refused(r) => Written::Refused(r),
-    }
+    config.validate()?;
+    encode_valid(
+        shape,
+        config,
+        sequence,
+        operations,
+        coordinates,
+        captions,
+        out,
+    )
 }
 
 // 24, 25, 33.
+#[tactic(auto, unfolding(meaning::specs::Encoder::encode_valid))]
 fn encode_valid(
     shape: Shape,
     config: Config,
@@ -101,26 +101,24 @@ fn encode_valid(
     coordinates: &[u32],
     captions: &[u8],
     out: &mut [u8],
-) -> Written
+) -> Result<usize, Refusal>
     requires { config.dimensions ≤ max_dimensions }
     ensures value { result ≡ written_told (encode_valid shape config sequence operations.now coordinates.now captions.now (length out.old)) }
     ensures out_after { out.new ≡ output_after out.old (encode_valid shape config sequence operations.now coordinates.now captions.now (length out.old)) }
 {
     if sequence == 0 {
-        return Written::Refused(Refusal::WrongSequence);
+        return Err(Refusal::WrongSequence);
     }
-    match check_words(shape, operations.len()) {
-        Checked::Passed => encode_operations(
-            shape,
-            config,
-            sequence,
-            operations,
-            coordinates,
-            captions,
-            out,
-        ),
-        Checked::Refused(r) => Written::Refused(r),
-    }
+    check_words(shape, operations.len())?;
+    encode_operations(
+        shape,
+        config,
+        sequence,
+        operations,
+        coordinates,
+        captions,
+        out,
+    )
 }
 
 // 33, what the operations refuse, 22, 32; then the payload, and the seal around it.
@@ -132,7 +130,7 @@ fn encode_operations(
     coordinates: &[u32],
     captions: &[u8],
     out: &mut [u8],
-) -> Written
+) -> Result<usize, Refusal>
     requires dimensions_le_max_dimensions { config.dimensions ≤ max_dimensions }
     requires operations_value { words_checked shape (length operations.now) ≡ passes }
     ensures value { result ≡ written_told (encode_operations shape config sequence operations.now coordinates.now captions.now (length out.old)) }
@@ -141,21 +139,16 @@ fn encode_operations(
     let d = config.dimensions;
     let puts = put_count(operations);
     if coordinates.len() != d * puts {
-        return Written::Refused(Refusal::RequestMalformed);
+        return Err(Refusal::RequestMalformed);
     }
-    let n = match check_operations(config, operations, coordinates, captions) {
-        Measured::Length(n) => n,
-        Measured::Refused(r) => {
-            return Written::Refused(r);
-        }
-    };
+    let n = check_operations(config, operations, coordinates, captions)?;
     let before = head(shape);
     if Config::MAX_FRAME - before < n {
-        return Written::Refused(Refusal::WrongLength);
+        return Err(Refusal::WrongLength);
     }
     let payload = before + n;
     if out.len() < payload + layout::FRAME_AROUND {
-        return Written::Refused(Refusal::OutputTooShort);
+        return Err(Refusal::OutputTooShort);
     }
     write_payload(
         &mut out[layout::FRAME_HEAD..],
@@ -167,12 +160,12 @@ fn encode_operations(
         captions,
     );
     frames::seal(out, payload);
-    Written::Bytes(payload + layout::FRAME_AROUND)
+    Ok(payload + layout::FRAME_AROUND)
 }
 
 // 25, then 33.
-fn check_words(shape: Shape, words: usize) -> Checked
-    ensures { result ≡ checked (words_checked shape words) }
+fn check_words(shape: Shape, words: usize) -> Result<(), Refusal>
+    ensures { result ≡ words_checked shape words }
 {
     match shape {
         Shape::Single => check_single(words),
@@ -181,32 +174,34 @@ fn check_words(shape: Shape, words: usize) -> Checked
 }
 
 // A single frame has one operation.
-fn check_single(words: usize) -> Checked
-    ensures { result ≡ checked (words_checked Shape.Single words) }
+#[tactic(auto, unfolding(meaning::specs::Encoder::words_checked))]
+fn check_single(words: usize) -> Result<(), Refusal>
+    ensures { result ≡ words_checked Shape.Single words }
 {
     if words % 2 != 0 {
-        return Checked::Refused(Refusal::RequestMalformed);
+        return Err(Refusal::RequestMalformed);
     }
     if words / 2 != 1 {
-        return Checked::Refused(Refusal::RequestMalformed);
+        return Err(Refusal::RequestMalformed);
     }
-    Checked::Passed
+    Ok(())
 }
 
-fn check_batch(words: usize) -> Checked
-    ensures { result ≡ checked (words_checked Shape.Batch words) }
+#[tactic(auto, unfolding(meaning::specs::Encoder::words_checked))]
+fn check_batch(words: usize) -> Result<(), Refusal>
+    ensures { result ≡ words_checked Shape.Batch words }
 {
     let n = words / 2;
     if n < 1 {
-        return Checked::Refused(Refusal::WrongBatchCount);
+        return Err(Refusal::WrongBatchCount);
     }
     if Config::MAX_BATCH_OPERATIONS < n {
-        return Checked::Refused(Refusal::WrongBatchCount);
+        return Err(Refusal::WrongBatchCount);
     }
     if words % 2 != 0 {
-        return Checked::Refused(Refusal::RequestMalformed);
+        return Err(Refusal::RequestMalformed);
     }
-    Checked::Passed
+    Ok(())
 }
 
 fn head(shape: Shape) -> usize
@@ -222,14 +217,10 @@ fn put_count(operations: &[u64]) -> usize
     ensures value { result ≡ put_count (asked operations.now) }
     ensures upper_bound { result ≤ length operations.now / 2 }
 {
-    let n = operations.len() / 2;
-    let mut count: usize = 0;
-    let mut k: usize = 0;
-    while k < n {
+    let mut count = 0;
+    for k in 0..operations.len() / 2 {
         let o = rows::operation_at(operations, k);
-        let put = o.put;
-        count += taken(put, 1);
-        k += 1;
+        count += taken(o.put, 1);
     }
     count
 }
@@ -246,60 +237,55 @@ fn check_operations(
     operations: &[u64],
     coordinates: &[u32],
     captions: &[u8],
-) -> Measured
+) -> Result<usize, Refusal>
     requires dimensions_le_max_dimensions { config.dimensions ≤ max_dimensions }
     requires operations_len_bound { length operations.now / 2 ≤ max_batch_operations }
     requires coordinates_len { length coordinates.now ≡ config.dimensions * put_count (asked operations.now) }
     ensures { result ≡ size_told (λ es. length (tagged_bytes es)) (encode_all config coordinates.now captions.now (asked operations.now)) }
 {
     let d = config.dimensions;
-    let n = operations.len() / 2;
-    let mut sum: usize = 0;
-    let mut at: usize = 0;
-    let mut k: usize = 0;
-    while k < n {
+    let mut sum = 0;
+    let mut at = 0;
+    for k in 0..operations.len() / 2 {
         let o = rows::operation_at(operations, k);
         let word = operations[2 * k + 1];
-        let m = match check_operation(config, o, word, &coordinates[at..], captions) {
-            Measured::Length(m) => m,
-            Measured::Refused(r) => {
-                return Measured::Refused(r);
-            }
-        };
-        let put = o.put;
-        sum += m;
-        at += taken(put, d);
-        k += 1;
+        sum += check_operation(config, o, word, &coordinates[at..], captions)?;
+        at += taken(o.put, d);
     }
-    Measured::Length(sum)
+    Ok(sum)
 }
 
 // A delete's 33, or what a put refuses.
+#[tactic(auto, unfolding(meaning::specs::Encoder::encode_delete))]
 fn check_operation(
     config: Config,
     o: Operation,
     word: u64,
     coordinates: &[u32],
     captions: &[u8],
-) -> Measured
+) -> Result<usize, Refusal>
     requires dimensions_le_max_dimensions { config.dimensions ≤ max_dimensions }
     requires o_value { o ≡ operation_of o.id.0 word }
     requires dimensions_in_bounds { o.put ≡ true → config.dimensions ≤ length coordinates.now }
     ensures { result ≡ size_told tagged_length (encode_one config coordinates.now captions.now (record { id = o.id.0; word = word })) }
 {
-    let put = o.put;
-    if put {
+    if o.put {
         let d = config.dimensions;
         return check_put(config, o, &coordinates[..d], captions);
     }
     if word != 0 {
-        return Measured::Refused(Refusal::RequestMalformed);
+        return Err(Refusal::RequestMalformed);
     }
-    Measured::Length(layout::DELETE_LENGTH)
+    Ok(layout::DELETE_LENGTH)
 }
 
 // 14, 33, 12, 13, 15.
-fn check_put(config: Config, o: Operation, coordinates: &[u32], captions: &[u8]) -> Measured
+fn check_put(
+    config: Config,
+    o: Operation,
+    coordinates: &[u32],
+    captions: &[u8],
+) -> Result<usize, Refusal>
     requires operation_fits { OperationFits o }
     requires coordinates_len { length coordinates.now ≡ config.dimensions }
     requires dimensions_le_max_dimensions { config.dimensions ≤ max_dimensions }
@@ -308,28 +294,25 @@ fn check_put(config: Config, o: Operation, coordinates: &[u32], captions: &[u8])
     let n = o.caption_length;
     let start = o.at;
     if config.caption_limit() < n {
-        return Measured::Refused(Refusal::CaptionTooLong);
+        return Err(Refusal::CaptionTooLong);
     }
     let end = start + n;
     if captions.len() < end {
-        return Measured::Refused(Refusal::RequestMalformed);
+        return Err(Refusal::RequestMalformed);
     }
-    let metric = config.metric;
-    match coordinates::check_bits(coordinates, metric.is_cosine()) {
-        Checked::Passed => check_caption(&captions[start..end], coordinates.len()),
-        Checked::Refused(r) => Measured::Refused(r),
-    }
+    coordinates::check_bits(coordinates, config.metric.is_cosine())?;
+    check_caption(&captions[start..end], coordinates.len())
 }
 
-fn check_caption(caption: &[u8], d: usize) -> Measured
+fn check_caption(caption: &[u8], d: usize) -> Result<usize, Refusal>
     requires caption_len_bound { length caption.now ≤ max_metadata }
     requires d_le_max_dimensions { d ≤ max_dimensions }
     ensures { result ≡ caption_told d caption.now }
 {
     if !utf8::is_utf8(caption) {
-        return Measured::Refused(Refusal::NotUtf8);
+        return Err(Refusal::NotUtf8);
     }
-    Measured::Length(layout::record_length(d, caption.len()))
+    Ok(layout::record_length(d, caption.len()))
 }
 
 // ---- what is written once nothing is refused
@@ -367,8 +350,7 @@ fn write_single(
     ensures { out.new ≡ placed 0 (payload_bytes Shape.Single sequence (tagged_of config operations.now coordinates.now captions.now)) out.old }
 {
     let o = rows::operation_at(operations, 0);
-    let put = o.put;
-    frames::write_opcode(out, tag(put), sequence);
+    frames::write_opcode(out, tag(o.put), sequence);
     write_fields(
         &mut out[layout::OPCODE_AND_SEQUENCE..],
         config,
@@ -418,16 +400,12 @@ fn write_operations(
     ensures { out.new ≡ placed 0 (tagged_bytes (tagged_of config operations.now coordinates.now captions.now)) out.old }
 {
     let d = config.dimensions;
-    let n = operations.len() / 2;
-    let mut at: usize = 0;
-    let mut from: usize = 0;
-    let mut k: usize = 0;
-    while k < n {
+    let mut at = 0;
+    let mut from = 0;
+    for k in 0..operations.len() / 2 {
         let o = rows::operation_at(operations, k);
         at += write_operation(&mut out[at..], config, o, &coordinates[from..], captions);
-        let put = o.put;
-        from += taken(put, d);
-        k += 1;
+        from += taken(o.put, d);
     }
 }
 
@@ -445,8 +423,7 @@ fn write_operation(
     ensures value { result ≡ suc (length (fields_of config.dimensions coordinates.now captions.now o)) }
     ensures out_after { out.new ≡ placed 0 (tag_of o.put ∷ fields_of config.dimensions coordinates.now captions.now o) out.old }
 {
-    let put = o.put;
-    fields::put_u8(out, 0, tag(put));
+    fields::put_u8(out, 0, tag(o.put));
     1 + write_fields(&mut out[1..], config, o, coordinates, captions)
 }
 
@@ -470,17 +447,15 @@ fn write_fields(
     ensures value { result ≡ length (fields_of config.dimensions coordinates.now captions.now o) }
     ensures out_after { out.new ≡ placed 0 (fields_of config.dimensions coordinates.now captions.now o) out.old }
 {
-    let id = o.id;
-    let put = o.put;
-    if put {
+    let id = o.id.0;
+    if o.put {
         let d = config.dimensions;
         let n = o.caption_length;
-        let start = o.at;
-        let stop = start + n;
-        write_put(out, id.0, &coordinates[..d], &captions[start..stop]);
+        let stop = o.at + n;
+        write_put(out, id, &coordinates[..d], &captions[o.at..stop]);
         return layout::ID_LENGTH + layout::item_length(d, n);
     }
-    fields::put_u64(out, 0, id.0);
+    fields::put_u64(out, 0, id);
     layout::ID_LENGTH
 }
 
@@ -502,9 +477,7 @@ fn write_coordinates(out: &mut [u8], coordinates: &[u32])
     requires { 4 * length coordinates.now ≤ length out.old }
     ensures { out.new ≡ placed 0 (coordinate_bytes coordinates.now) out.old }
 {
-    let mut i: usize = 0;
-    while i < coordinates.len() {
+    for i in 0..coordinates.len() {
         fields::put_u32(out, 4 * i, coordinates[i]);
-        i += 1;
     }
 }

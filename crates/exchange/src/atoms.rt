@@ -53,30 +53,21 @@ pub fn words_line(answer: &mut [u8], c: Cursor, name: &[u8], w: &[u64], e: &[u32
 
 fn hex_all(answer: &mut [u8], c: Cursor, s: &[u8]) -> Cursor {
     let mut at = c;
-    let mut i: usize = 0;
-    while i < s.len() {
-        at = text::hex(answer, at, s[i]);
-        i += 1;
+    for b in s {
+        at = text::hex(answer, at, *b);
     }
     at
 }
 
 fn count(w: &[u64], e: &[u32]) -> usize {
-    if 0 < w.len() { w.len() } else { e.len() }
+    if w.is_empty() { e.len() } else { w.len() }
 }
 
 fn word(w: &[u64], e: &[u32], i: usize) -> u64 {
     if i < w.len() {
         return w[i];
     }
-    if i < e.len() {
-        return wide(e[i]);
-    }
-    0
-}
-
-fn wide(w: u32) -> u64 {
-    w as u64
+    e.get(i).map_or(0, |n| u64::from(*n))
 }
 
 // The CRC-32 of the first n words as u64 little-endian.
@@ -84,33 +75,27 @@ fn crc_of_words(w: &[u64], e: &[u32], n: usize) -> u32 {
     let t = crc32::tables();
     let mut crc = crc32::start();
     let mut bytes = [0u8; 8];
-    let mut i: usize = 0;
-    while i < n {
+    for i in 0..n {
         fields::put_u64(&mut bytes, 0, word(w, e, i));
         crc = crc32::update(&t, crc, &bytes);
-        i += 1;
     }
     crc32::finish(crc)
 }
 
 // How many of the first n words are left without the zeros at the end.
 fn without_zeros(w: &[u64], e: &[u32], n: usize) -> usize {
-    let mut left = n;
-    while 0 < left {
-        if word(w, e, left - 1) != 0 {
-            return left;
+    for i in (0..n).rev() {
+        if word(w, e, i) != 0 {
+            return i + 1;
         }
-        left -= 1;
     }
-    left
+    0
 }
 
 fn list(answer: &mut [u8], c: Cursor, w: &[u64], e: &[u32], n: usize) -> Cursor {
     let mut at = c;
-    let mut i: usize = 0;
-    while i < n {
+    for i in 0..n {
         at = listed(answer, at, i, word(w, e, i));
-        i += 1;
     }
     at
 }

@@ -1,28 +1,19 @@
 // How much of the lent memory a call takes, and what is done with it before: words and entries hold what a part has of them and,
 // behind that, the tables' fill; an output is full of its fill.
 use crate::request;
-use fields::{Field32, Field64};
 
 pub fn words_taken(request: &[u8], call: u8) -> usize {
-    larger(
-        request::number_of(request, call, request::WORDS) as usize,
-        request::word_part(request, call, 0).len() / 8,
-    )
+    let lent = request::number_of(request, call, request::WORDS) as usize;
+    lent.max(request::word_part(request, call, 0).len() / 8)
 }
 
 pub fn entries_taken(request: &[u8], call: u8) -> usize {
-    larger(
-        request::number_of(request, call, request::ENTRIES) as usize,
-        request::word_part(request, call, 1).len() / 4,
-    )
+    let lent = request::number_of(request, call, request::ENTRIES) as usize;
+    lent.max(request::word_part(request, call, 1).len() / 4)
 }
 
 pub fn output_taken(request: &[u8], call: u8) -> usize {
     request::number_of(request, call, request::OUTPUT) as usize
-}
-
-fn larger(a: usize, b: usize) -> usize {
-    if a < b { b } else { a }
 }
 
 pub fn fill_words(request: &[u8], call: u8, words: &mut [u64]) {
@@ -45,39 +36,17 @@ pub fn fill_output(request: &[u8], call: u8, output: &mut [u8]) {
 }
 
 pub fn load64(words: &mut [u64], part: &[u8], fill: u64) {
-    let mut i: usize = 0;
-    while i < words.len() {
-        words[i] = word64(part, 8 * i, fill);
-        i += 1;
+    for (i, word) in words.iter_mut().enumerate() {
+        *word = fields::read_u64(part, 8 * i).map_or(fill, |(n, _)| n);
     }
 }
 
 pub fn load32(entries: &mut [u32], part: &[u8], fill: u32) {
-    let mut i: usize = 0;
-    while i < entries.len() {
-        entries[i] = word32(part, 4 * i, fill);
-        i += 1;
+    for (i, entry) in entries.iter_mut().enumerate() {
+        *entry = fields::read_u32(part, 4 * i).map_or(fill, |(n, _)| n);
     }
 }
 
 pub fn fill_bytes(output: &mut [u8], fill: u8) {
-    let mut i: usize = 0;
-    while i < output.len() {
-        output[i] = fill;
-        i += 1;
-    }
-}
-
-fn word64(part: &[u8], at: usize, fill: u64) -> u64 {
-    match fields::read_u64(part, at) {
-        Field64::Value(n, _) => n,
-        Field64::Past => fill,
-    }
-}
-
-fn word32(part: &[u8], at: usize, fill: u32) -> u32 {
-    match fields::read_u32(part, at) {
-        Field32::Value(n, _) => n,
-        Field32::Past => fill,
-    }
+    output.fill(fill);
 }

@@ -2,8 +2,7 @@
 // A number or a part that a request does not have is read as 0 or as no bytes.
 ghost use Rattle.std.specs.Prelude.{◌≤◌, ◌<◌};
 
-use config::{Config, Metric, ReadMetric};
-use fields::{Field32, Field64};
+use config::{Config, Metric};
 
 // How a call is asked (docs/QUESTIONS.md), a digit for each of: how many numbers and how many parts it takes; how many of its parts,
 // from the first on, hold words (of 8 bytes, then of 4); and the places of some numbers: the metric; the row words or starts
@@ -59,23 +58,12 @@ fn digit(call: u8, what: u64) -> u8 {
     (shape(call) / what % 16) as u8
 }
 
-#[derive(Clone, Copy)]
-pub enum Asked {
-    Call(u8),
-    Bad,
-}
-
 // The call, if the request is no bad request.
-pub fn call_of(request: &[u8]) -> Asked {
-    if request.len() == 0 {
-        return Asked::Bad;
-    }
-    let call = request[0];
-    if is_good(request, call) {
-        Asked::Call(call)
-    } else {
-        Asked::Bad
-    }
+pub fn call_of(request: &[u8]) -> Option<u8> {
+    request
+        .first()
+        .copied()
+        .filter(|call| is_good(request, *call))
 }
 
 fn is_good(request: &[u8], call: u8) -> bool {
@@ -111,10 +99,7 @@ fn adds_up(request: &[u8], call: u8) -> bool {
     if request[at] != parts {
         return false;
     }
-    match after_parts(request, at + 1, parts) {
-        Place::At(end) => end == request.len(),
-        Place::Past => false,
-    }
+    after_parts(request, at + 1, parts) == Some(request.len())
 }
 
 fn has_whole_words(request: &[u8], word_parts: u8) -> bool {
@@ -142,19 +127,12 @@ fn is_vector(n: usize) -> bool {
 
 // Number i, from 0 on.
 pub fn number(request: &[u8], i: u8) -> u64 {
-    match fields::read_u64(request, after_numbers(i)) {
-        Field64::Value(n, _) => n,
-        Field64::Past => 0,
-    }
+    fields::read_u64(request, after_numbers(i)).map_or(0, |(n, _)| n)
 }
 
 // The same for a call whose field has 32 bits: a number that it cannot hold is lent as the largest that it can.
 pub fn number32(request: &[u8], i: u8) -> u32 {
-    let n = number(request, i);
-    if 4294967295 < n {
-        return u32::MAX;
-    }
-    n as u32
+    u32::try_from(number(request, i)).unwrap_or(u32::MAX)
 }
 
 // The number that the call has for `what`.
@@ -168,13 +146,15 @@ pub fn number_of(request: &[u8], call: u8, what: u64) -> u64 {
 
 // Part i, from 0 on.
 pub fn part(request: &[u8], i: u8) -> &[u8] {
-    if request.len() < 2 {
-        return &request[..0];
-    }
-    match after_parts(request, after_numbers(request[1]) + 1, i) {
-        Place::At(at) => part_at(request, at),
-        Place::Past => &request[..0],
-    }
+    found_part(request, i).unwrap_or(&request[..0])
+}
+
+fn found_part(request: &[u8], i: u8) -> Option<&[u8]> {
+    let numbers = *request.get(1)?;
+    let at = after_parts(request, after_numbers(numbers) + 1, i)?;
+    let (n, from) = fields::read_u32(request, at)?;
+    let end = from.checked_add(n as usize)?;
+    request.get(from..end)
 }
 
 // Part i if it holds words.
@@ -188,8 +168,8 @@ pub fn word_part(request: &[u8], call: u8, i: u8) -> &[u8] {
 // The five numbers that every `set` starts with.
 pub fn set_of(request: &[u8]) -> Config {
     match Metric::from_u32(number32(request, 4)) {
-        ReadMetric::Known(metric) => numbers_of(request).with_metric(metric),
-        ReadMetric::Refused(_) => numbers_of(request),
+        Ok(metric) => numbers_of(request).with_metric(metric),
+        Err(_) => numbers_of(request),
     }
 }
 
@@ -200,13 +180,6 @@ fn numbers_of(request: &[u8]) -> Config {
         .with_seed(number(request, 3))
 }
 
-// Where the next field is, or a field that runs past the end.
-#[derive(Clone, Copy)]
-enum Place {
-    At(usize),
-    Past,
-}
-
 // Where the count of parts stands behind k numbers; number k stands there if it is not the last.
 fn after_numbers(k: u8) -> usize
     ensures { (2 ≤ result) × (result < 2048) }
@@ -214,54 +187,20 @@ fn after_numbers(k: u8) -> usize
     2 + 8 * (k as usize)
 }
 
-fn after_parts(request: &[u8], from: usize, count: u8) -> Place {
+// Where the field behind so many parts is, if none of them runs past the end.
+fn after_parts(request: &[u8], from: usize, count: u8) -> Option<usize> {
     let mut at = from;
-    let mut left = count;
-    while 0 < left {
-        match after_part(request, at) {
-            Place::At(end) => {
-                at = end;
-            }
-            Place::Past => {
-                return Place::Past;
-            }
-        }
-        left -= 1;
+    for _ in 0..count {
+        at = after_part(request, at)?;
     }
-    Place::At(at)
+    Some(at)
 }
 
-fn after_part(request: &[u8], at: usize) -> Place {
-    match fields::read_u32(request, at) {
-        Field32::Value(n, from) => after_bytes(request, from, n as usize),
-        Field32::Past => Place::Past,
+fn after_part(request: &[u8], at: usize) -> Option<usize> {
+    let (n, from) = fields::read_u32(request, at)?;
+    let end = from.checked_add(n as usize)?;
+    if request.len() < end {
+        return None;
     }
-}
-
-fn after_bytes(request: &[u8], from: usize, n: usize) -> Place {
-    if request.len() < from {
-        return Place::Past;
-    }
-    if request.len() - from < n {
-        return Place::Past;
-    }
-    Place::At(from + n)
-}
-
-fn part_at(request: &[u8], at: usize) -> &[u8] {
-    match fields::read_u32(request, at) {
-        Field32::Value(n, from) => bytes_at(request, from, n as usize),
-        Field32::Past => &request[..0],
-    }
-}
-
-fn bytes_at(request: &[u8], from: usize, n: usize) -> &[u8] {
-    if request.len() < from {
-        return &request[..0];
-    }
-    if request.len() - from < n {
-        return &request[..0];
-    }
-    let end = from + n;
-    &request[from..end]
+    Some(end)
 }

@@ -1,25 +1,18 @@
-// The text of an answer, written into lent memory. A cursor is taken and given back by value; one that is short has met the
-// end of the memory, and the answer's length is then 0.
+// The text of an answer, written into lent memory. A cursor is taken and given back by value: where the text ends, or `None`
+// once it has met the end of the memory; the answer's length is then 0.
 ghost use Rattle.std.specs.Prelude.{◌≤◌, ◌<◌, length};
 
-use refusal::{Checked, Refusal};
+use refusal::Refusal;
 
-#[derive(Clone, Copy)]
-pub struct Cursor {
-    pub at: usize,
-    pub short: bool,
-}
+pub type Cursor = Option<usize>;
 
 pub fn start() -> Cursor {
-    Cursor {
-        at: 0,
-        short: false,
-    }
+    Some(0)
 }
 
 // For a call that was lent too little.
 pub fn too_little() -> Cursor {
-    Cursor { at: 0, short: true }
+    None
 }
 
 pub fn bad_request(answer: &mut [u8]) -> Cursor {
@@ -31,10 +24,10 @@ pub fn refused(answer: &mut [u8], name: &[u8], refusal: Refusal) -> Cursor {
 }
 
 // What a call answers that only tests.
-pub fn checked(answer: &mut [u8], checked: Checked) -> Cursor {
+pub fn checked(answer: &mut [u8], checked: Result<(), Refusal>) -> Cursor {
     match checked {
-        Checked::Passed => line(answer, start(), b"valid"),
-        Checked::Refused(refusal) => refused(answer, b"refused ", refusal),
+        Ok(()) => line(answer, start(), b"valid"),
+        Err(refusal) => refused(answer, b"refused ", refusal),
     }
 }
 
@@ -50,37 +43,18 @@ pub fn utf8(answer: &mut [u8], yes: bool) -> Cursor {
 pub fn length(answer: &[u8], c: Cursor) -> usize
     ensures { result ≤ length answer.now }
 {
-    let at = c.at;
-    if c.short {
-        return 0;
-    }
-    if answer.len() < at {
-        return 0;
-    }
-    at
+    c.filter(|at| *at <= answer.len()).unwrap_or(0)
 }
 
 pub fn byte(answer: &mut [u8], c: Cursor, b: u8) -> Cursor {
-    let at = c.at;
-    if at < answer.len() {
-        answer[at] = b;
-        Cursor {
-            at: at + 1,
-            short: c.short,
-        }
-    } else {
-        Cursor { at, short: true }
-    }
+    put(answer, c, &[b])
 }
 
 pub fn put(answer: &mut [u8], c: Cursor, s: &[u8]) -> Cursor {
-    let mut at = c;
-    let mut i: usize = 0;
-    while i < s.len() {
-        at = byte(answer, at, s[i]);
-        i += 1;
-    }
-    at
+    let at = c?;
+    let end = at.checked_add(s.len())?;
+    answer.get_mut(at..end)?.copy_from_slice(s);
+    Some(end)
 }
 
 pub fn line(answer: &mut [u8], c: Cursor, s: &[u8]) -> Cursor {
@@ -101,23 +75,12 @@ pub fn named(answer: &mut [u8], c: Cursor, name: &[u8], n: u64) -> Cursor {
 }
 
 pub fn decimal(answer: &mut [u8], c: Cursor, n: u64) -> Cursor {
-    let mut at = c;
-    let mut unit: u64 = 10_000_000_000_000_000_000;
-    while 1 < unit {
-        at = digit_of(answer, at, n, unit);
-        unit /= 10;
-    }
+    let at = if n < 10 {
+        c
+    } else {
+        decimal(answer, c, n / 10)
+    };
     byte(answer, at, digit((n % 10) as u8))
-}
-
-// The digit that counts the units, if it or one before it is not 0.
-fn digit_of(answer: &mut [u8], c: Cursor, n: u64, unit: u64) -> Cursor
-    requires { 0 < unit }
-{
-    if n < unit {
-        return c;
-    }
-    byte(answer, c, digit((n / unit % 10) as u8))
 }
 
 // Two digits, lower case.

@@ -8,28 +8,19 @@ use std::io;
 
 fn write(rt: &impl Print, answer: &[u8], c: Cursor) -> io::Result<()> {
     let n = text::length(answer, c);
-    rt.write_all(&answer[0..n])
+    rt.write_all(&answer[..n])
 }
 
 fn front(s: &[u8], n: usize) -> &[u8] {
-    if s.len() < n {
-        return s;
-    }
-    &s[0..n]
+    s.get(..n).unwrap_or(s)
 }
 
 fn front_words(w: &[u64], n: usize) -> &[u64] {
-    if w.len() < n {
-        return w;
-    }
-    &w[0..n]
+    w.get(..n).unwrap_or(w)
 }
 
 fn front_entries(e: &[u32], n: usize) -> &[u32] {
-    if e.len() < n {
-        return e;
-    }
-    &e[0..n]
+    e.get(..n).unwrap_or(e)
 }
 
 fn show_bytes(rt: &impl Print, s: &[u8], n: usize) -> io::Result<()> {
@@ -53,11 +44,9 @@ fn show_words(rt: &impl Print, w: &[u64], e: &[u32], n: usize) -> io::Result<()>
 // Byte i is 7 * i + 3 modulo 256.
 fn rise(s: &mut [u8]) {
     let mut b: u8 = 3;
-    let mut i: usize = 0;
-    while i < s.len() {
-        s[i] = b;
-        b = std::num::wrapping_add_u8(b, 7);
-        i += 1;
+    for byte in s {
+        *byte = b;
+        b = b.wrapping_add(7);
     }
 }
 
@@ -84,8 +73,8 @@ fn filled(rt: &impl Print, part: &[u8], fill: u64) -> io::Result<()> {
     let mut e = [0u32; 65];
     lend::load64(&mut w, part, fill);
     lend::load32(&mut e, part, (fill % 4294967296) as u32);
-    lengths_of_words(rt, &w, &e[0..0])?;
-    lengths_of_words(rt, &w[0..0], &e)
+    lengths_of_words(rt, &w, &e[..0])?;
+    lengths_of_words(rt, &w[..0], &e)
 }
 
 fn main(rt: HostRuntime) -> io::Result<()> {

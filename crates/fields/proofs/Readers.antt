@@ -1,14 +1,12 @@
 -- What the readers' proofs cite: a number as the sum of its bytes at any width, two halves of a number, and a reader's answer where there is room and where there is none.
 -- Assumes nothing.
+use Rattle.std.specs.Prelude.{Some, None}
 use mathlib.Core.Path.{◌≡◌, refl, sym, ap, ◌∙◌}
 use mathlib.Core.List.{List}
 use Prim.Native.Nat.{ℕ, zero, suc, ◌+◌, ◌*◌, ◌^◌, ◌≤◌, ◌<◌}
 use borrow.Author.Tests.{le-leb, lt-leb}
 use lib.ListN.{length, get_or}
 use Rattle.fields.specs.Fields.{part, le, num, field8, field32, field64}
-use Rattle.fields.specs.declared.Field8.TheVariants as F8
-use Rattle.fields.specs.declared.Field32.TheVariants as F32
-use Rattle.fields.specs.declared.Field64.TheVariants as F64
 use Rattle.fields.proofs.Parts.{length_part, part_split, past, past_suc}
 use Rattle.fields.proofs.Numbers.{num_suc, le_append}
 
@@ -30,26 +28,26 @@ num_halves s at m n h =
     ap le (part_split s at m n) ∙ le_append (part s at m) (part s (at + m) n)
     ∙ ap (λ (k : ℕ). num s at m + 256 ^ k * num s (at + m) n) (length_part s at m h)
 
-pub field8_room : (s : List ℕ) (at : ℕ) → at + 1 ≤ length s → field8 s at ≡ F8.Value (num s at 1) (at + 1)
+pub field8_room : (s : List ℕ) (at : ℕ) → at + 1 ≤ length s → field8 s at ≡ Some (num s at 1, at + 1)
 unfolding field8
 field8_room s at h = simp (le-leb _ _ h)
 
-pub field8_past : (s : List ℕ) (at : ℕ) → length s < at + 1 → field8 s at ≡ F8.Past
+pub field8_past : (s : List ℕ) (at : ℕ) → length s < at + 1 → field8 s at ≡ None
 unfolding field8
 field8_past s at h = simp (lt-leb _ _ h)
 
-pub field32_room : (s : List ℕ) (at : ℕ) → at + 4 ≤ length s → field32 s at ≡ F32.Value (num s at 4) (at + 4)
+pub field32_room : (s : List ℕ) (at : ℕ) → at + 4 ≤ length s → field32 s at ≡ Some (num s at 4, at + 4)
 unfolding field32
 field32_room s at h = simp (le-leb _ _ h)
 
-pub field32_past : (s : List ℕ) (at : ℕ) → length s < at + 4 → field32 s at ≡ F32.Past
+pub field32_past : (s : List ℕ) (at : ℕ) → length s < at + 4 → field32 s at ≡ None
 unfolding field32
 field32_past s at h = simp (lt-leb _ _ h)
 
-pub field64_room : (s : List ℕ) (at : ℕ) → at + 8 ≤ length s → field64 s at ≡ F64.Value (num s at 8) (at + 8)
+pub field64_room : (s : List ℕ) (at : ℕ) → at + 8 ≤ length s → field64 s at ≡ Some (num s at 8, at + 8)
 unfolding field64
 field64_room s at h = simp (le-leb _ _ h)
 
-pub field64_past : (s : List ℕ) (at : ℕ) → length s < at + 8 → field64 s at ≡ F64.Past
+pub field64_past : (s : List ℕ) (at : ℕ) → length s < at + 8 → field64 s at ≡ None
 unfolding field64
 field64_past s at h = simp (lt-leb _ _ h)

@@ -1,11 +1,5 @@
 -- Little-endian fields: the numbers that bytes stand for, the bytes of a number, and what a reader finds at a cursor.
-use Rattle.std.specs.Prelude.{ℕ, zero, suc, ◌+◌, ◌*◌, ◌/◌, ◌%◌, ◌<◌, Bool, cond, List, [], ◌∷◌, leb, length, get_or, take, drop}
-use Rattle.fields.specs.declared.Field8.{Field8}
-use Rattle.fields.specs.declared.Field8.TheVariants as F8
-use Rattle.fields.specs.declared.Field32.{Field32}
-use Rattle.fields.specs.declared.Field32.TheVariants as F32
-use Rattle.fields.specs.declared.Field64.{Field64}
-use Rattle.fields.specs.declared.Field64.TheVariants as F64
+use Rattle.std.specs.Prelude.{ℕ, zero, suc, ◌+◌, ◌*◌, ◌/◌, ◌%◌, ◌<◌, Bool, cond, List, [], ◌∷◌, leb, length, get_or, take, drop, Option, Some, None}
 
 -- the n elements from `at`; fewer where the list ends before
 abbrev pub part : List ℕ → ℕ → ℕ → List ℕ
@@ -34,11 +28,11 @@ abbrev pub room : List ℕ → ℕ → ℕ → Bool
 room s at n = leb (at + n) (length s)
 
 -- a field of 1, 4 or 8 bytes: its number and the cursor behind it, or past the end
-unfoldable pub field8 : List ℕ → ℕ → Field8
-field8 s at = cond (room s at 1) (F8.Value (num s at 1) (at + 1)) F8.Past
+unfoldable pub field8 : List ℕ → ℕ → Option (ℕ × ℕ)
+field8 s at = cond (room s at 1) (Some (num s at 1, at + 1)) None
 
-unfoldable pub field32 : List ℕ → ℕ → Field32
-field32 s at = cond (room s at 4) (F32.Value (num s at 4) (at + 4)) F32.Past
+unfoldable pub field32 : List ℕ → ℕ → Option (ℕ × ℕ)
+field32 s at = cond (room s at 4) (Some (num s at 4, at + 4)) None
 
-unfoldable pub field64 : List ℕ → ℕ → Field64
-field64 s at = cond (room s at 8) (F64.Value (num s at 8) (at + 8)) F64.Past
+unfoldable pub field64 : List ℕ → ℕ → Option (ℕ × ℕ)
+field64 s at = cond (room s at 8) (Some (num s at 8, at + 8)) None

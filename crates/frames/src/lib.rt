@@ -7,7 +7,6 @@ ghost use Rattle.std.specs.Prelude.{◌≡◌, ◌∷◌, ◌++◌, ◌+◌, ◌
 ghost use Rattle.crc32.specs.Steps.{Rows};
 ghost use Rattle.config.specs.Limits.{max_frame};
 ghost use Rattle.layout.specs.Layout.{frame_head, frame_length};
-ghost use Rattle.refusal.specs.Refusal.{measured};
 ghost use Rattle.fields.specs.Fields.{part, bytes};
 ghost use Rattle.fields.specs.Placed.{placed};
 ghost use Rattle.meaning.specs.Encoder.{frame_bytes};
@@ -15,7 +14,7 @@ ghost use Rattle.meaning.specs.Log.{length_at, payload_crc_holds};
 ghost use Rattle.frames.specs.Envelope.{payload_in, envelope_at};
 
 use config::Config;
-use refusal::{Measured, Refusal};
+use refusal::Refusal;
 
 // Internal: the caller knows the room. A payload's opcode and sequence.
 pub fn write_opcode(out: &mut [u8], opcode: u8, sequence: u64)
@@ -49,57 +48,51 @@ pub fn seal(out: &mut [u8], n: usize)
     fields::put_u32(out, end, whole);
 }
 
-// What stands at a byte of the log: too little for a frame, a payload of so many bytes that is all there with its CRC, or a refusal.
-#[derive(Clone, Copy)]
-pub enum Envelope {
-    TooLittle,
-    Payload(usize),
-    Refused(Refusal),
-}
-
 // Internal: `at` is a byte of the log, or its end.
-pub fn read_envelope(log: &[u8], at: usize) -> Envelope
+// What stands there: a payload of so many bytes that is all there with its CRC, a refusal, or nothing where too little is left for a
+// frame.
+#[tactic(auto, unfolding(crate::specs::Envelope::envelope_at))]
+pub fn read_envelope(log: &[u8], at: usize) -> Result<Option<usize>, Refusal>
     requires { at ≤ length log.now }
     ensures { result ≡ envelope_at log.now at }
 {
     let left = log.len() - at;
     if left < layout::FRAME_HEAD {
-        return Envelope::TooLittle;
+        return Ok(None);
     }
-    match read_length(log, at) {
-        Measured::Length(n) => within(left, n),
-        Measured::Refused(r) => Envelope::Refused(r),
-    }
+    let n = read_length(log, at)?;
+    Ok(within(left, n))
 }
 
 // A payload or its CRC that is not all there is a tail.
-fn within(left: usize, n: usize) -> Envelope
+fn within(left: usize, n: usize) -> Option<usize>
     requires { n ≤ max_frame }
     ensures { result ≡ payload_in left n }
 {
     if left < n + layout::FRAME_AROUND {
-        return Envelope::TooLittle;
+        return None;
     }
-    Envelope::Payload(n)
+    Some(n)
 }
 
 // 21, then 22.
-fn read_length(log: &[u8], at: usize) -> Measured
+#[tactic(auto, unfolding(meaning::specs::Log::length_at))]
+fn read_length(log: &[u8], at: usize) -> Result<usize, Refusal>
     requires { at + frame_head ≤ length log.now }
-    ensures { result ≡ measured (length_at log.now at) }
+    ensures { result ≡ length_at log.now at }
 {
     let end = at + 4;
     if crc32::crc32(&log[at..end]) != fields::get_u32(log, end) {
-        return Measured::Refused(Refusal::WrongLengthCrc);
+        return Err(Refusal::WrongLengthCrc);
     }
     let n = fields::get_u32(log, at) as usize;
     if n < Config::MIN_FRAME {
-        return Measured::Refused(Refusal::WrongLength);
+        return Err(Refusal::WrongLength);
     }
     if Config::MAX_FRAME < n {
-        return Measured::Refused(Refusal::WrongLength);
+        return Err(Refusal::WrongLength);
     }
-    Measured::Length(n)
+    Ok(n)
 }
 
 // Internal: `tables` is what `crc32::tables` gives, and the frame of n payload bytes at `at` is all there.

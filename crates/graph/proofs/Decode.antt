@@ -1,4 +1,5 @@
 -- What is read is what the bytes stand for, it ends where its layout ends, and each part of it passed its test.
+use Rattle.std.specs.Prelude.{Ok}
 use Prim.Native.Nat.{ℕ, zero, suc, ◌+◌, ◌*◌, ◌≤◌, ◌<◌}
 use mathlib.Core.Path.{◌≡◌, refl, sym, ap, ap₂, subst, ◌∙◌}
 use mathlib.Core.Bool.{true, not}
@@ -9,16 +10,15 @@ use lib.Dec.{ltb}
 use lib.ListN.{length, get_or, take}
 use Rattle.fields.specs.Fields.{num}
 use Rattle.config.specs.Settings.{in_range}
-use Rattle.refusal.specs.Refusal.{answer, passes}
+use Rattle.refusal.specs.Refusal.{passes}
 use Rattle.refusal.specs.declared.Refusal.TheVariants.{PastTheEnd, WrongLevels, WrongDegree}
-use Rattle.refusal.proofs.Results.{went, passed, answer_injective}
+use Rattle.refusal.proofs.Results.{went, passed, answer_injective, sized_is}
 use Rattle.graph.specs.Graph.{Links, Graph, degree_limit, neighbour_test, degree_test, levels_test, level_test, node_test, nodes_test, min_levels, max_levels}
 use Rattle.graph.specs.Layout.{links_length, node_length, graph_length}
 use Rattle.graph.specs.Cache.{Read, numbers_at, levels_at, links_at, several, read_neighbour, read_level, read_node}
 use Rattle.graph.specs.Decoded.{graph_at}
 use Rattle.graph.specs.Told.{next_told}
-use Rattle.graph.specs.declared.ReadNext.TheVariants as Nexts
-use Rattle.graph.proofs.Several.{found, parted, several_within, several_tested, did_pass}
+use Rattle.graph.proofs.Several.{parted, several_within, several_tested}
 
 pub length_numbers : (n : ℕ) (s : List ℕ) (at : ℕ) → length (numbers_at n s at) ≡ n
 length_numbers zero s at = refl
@@ -55,15 +55,15 @@ pub record NeighbourRead (count : ℕ) (s : List ℕ) (end node first k at : ℕ
   pub next_is : x.next ≡ at + 4
 
 pub neighbour_read : (count : ℕ) (s : List ℕ) (end node first k at : ℕ) (x : Read ℕ)
-    → read_neighbour count s end node first k at ≡ answer x → NeighbourRead count s end node first k at x
+    → read_neighbour count s end node first k at ≡ Ok x → NeighbourRead count s end node first k at x
 unfolding read_neighbour
 neighbour_read count s end node first k at x e =
     let w = went PastTheEnd (ltb end (at + 4)) _ x e in
-    let p = passed (neighbour_test count node (numbers_at k s first) (num s at 4)) (λ _. answer (record { value = num s at 4; next = at + 4 })) x w.then in
+    let p = passed (neighbour_test count node (numbers_at k s first) (num s at 4)) (λ _. Ok (record { value = num s at 4; next = at + 4 })) x w.then in
     let i = answer_injective _ x p.then in
     record {
       room = ltb-false _ _ w.test_false;
-      tested = did_pass _ p.value p.first;
+      tested = p.first;
       value_is = sym (ap (λ (y : Read ℕ). y.value) i);
       next_is = sym (ap (λ (y : Read ℕ). y.next) i);
     }
@@ -73,7 +73,7 @@ pub record Lies {A : Type 0} (x : Read A) (wanted : A) (end : ℕ) : Type 0 wher
   pub next_is : x.next ≡ end
 
 pub neighbours_read : (count : ℕ) (s : List ℕ) (end node first n k at : ℕ) (x : Read (List ℕ))
-    → several (read_neighbour count s end node first) n k at ≡ answer x → Lies x (numbers_at n s at) (at + 4 * n)
+    → several (read_neighbour count s end node first) n k at ≡ Ok x → Lies x (numbers_at n s at) (at + 4 * n)
 neighbours_read count s end node first zero k at x e =
     let i = answer_injective _ x e in
     let n : at ≡ x.next = ap (λ (y : Read (List ℕ)). y.next) i in
@@ -94,11 +94,11 @@ neighbours_read count s end node first (suc n) k at x e =
 pub record LevelRead (m count : ℕ) (s : List ℕ) (end node level at : ℕ) (x : Read (List ℕ)) : Type 0 where
   pub room : at + 4 ≤ end
   pub few : num s at 4 ≤ degree_limit m level
-  pub listed : several (read_neighbour count s end node (at + 4)) (num s at 4) 0 (at + 4) ≡ answer x
+  pub listed : several (read_neighbour count s end node (at + 4)) (num s at 4) 0 (at + 4) ≡ Ok x
   pub lies : Lies x (numbers_at (num s at 4) s (at + 4)) (at + 4 + 4 * num s at 4)
 
 pub level_read : (m count : ℕ) (s : List ℕ) (end node level at : ℕ) (x : Read (List ℕ))
-    → read_level m count s end node level at ≡ answer x → LevelRead m count s end node level at x
+    → read_level m count s end node level at ≡ Ok x → LevelRead m count s end node level at x
 unfolding read_level degree_test
 level_read m count s end node level at x e =
     let w = went PastTheEnd (ltb end (at + 4)) _ x e in
@@ -111,25 +111,25 @@ level_read m count s end node level at x e =
     }
 
 pub neighbour_within : (count : ℕ) (s : List ℕ) (end node first k at : ℕ) (x : Read ℕ) → at ≤ end
-    → read_neighbour count s end node first k at ≡ answer x → (at ≤ x.next) × (x.next ≤ end)
+    → read_neighbour count s end node first k at ≡ Ok x → (at ≤ x.next) × (x.next ≤ end)
 neighbour_within count s end node first k at x h e =
     let r = neighbour_read count s end node first k at x e in let a = r.room in let b = r.next_is in (omega arith, omega arith)
 
 pub level_within : (m count : ℕ) (s : List ℕ) (end node level at : ℕ) (x : Read (List ℕ)) → at ≤ end
-    → read_level m count s end node level at ≡ answer x → (at + 4 ≤ x.next) × (x.next ≤ end)
+    → read_level m count s end node level at ≡ Ok x → (at + 4 ≤ x.next) × (x.next ≤ end)
 level_within m count s end node level at x h e =
     let r = level_read m count s end node level at x e in
     several_within (read_neighbour count s end node (at + 4)) end (neighbour_within count s end node (at + 4)) (num s at 4) 0 (at + 4) x r.room r.listed
 
 -- the same of where it ends, as it is told
-pub level_next : (m count : ℕ) (s : List ℕ) (end node level at next : ℕ) → at ≤ end → next_told (read_level m count s end node level at) ≡ Nexts.Next next
+pub level_next : (m count : ℕ) (s : List ℕ) (end node level at next : ℕ) → at ≤ end → next_told (read_level m count s end node level at) ≡ Ok next
     → (at + 4 ≤ next) × (next ≤ end)
 level_next m count s end node level at next h e =
-    let f = found (read_level m count s end node level at) next e in
-    subst (λ (n : ℕ). (at + 4 ≤ n) × (n ≤ end)) f.next_is (level_within m count s end node level at f.read h f.is)
+    let f = sized_is (λ r. r.next) (read_level m count s end node level at) next e in
+    subst (λ (n : ℕ). (at + 4 ≤ n) × (n ≤ end)) f.size_is (level_within m count s end node level at f.value h f.is)
 
 pub levels_read : (m count : ℕ) (s : List ℕ) (end node n k at : ℕ) (x : Read Links)
-    → several (read_level m count s end node) n k at ≡ answer x → Lies x (levels_at n s at) (at + links_length x.value)
+    → several (read_level m count s end node) n k at ≡ Ok x → Lies x (levels_at n s at) (at + links_length x.value)
 levels_read m count s end node zero k at x e =
     let i = answer_injective _ x e in
     let v : x.value ≡ [] = sym (ap (λ (y : Read Links). y.value) i) in
@@ -154,10 +154,10 @@ levels_read m count s end node (suc n) k at x e =
 pub record NodeRead (m count : ℕ) (s : List ℕ) (end node at : ℕ) (x : Read Links) : Type 0 where
   pub room : at + 1 ≤ end
   pub levels_in : in_range (num s at 1) min_levels max_levels ≡ true
-  pub listed : several (read_level m count s end node) (num s at 1) 0 (at + 1) ≡ answer x
+  pub listed : several (read_level m count s end node) (num s at 1) 0 (at + 1) ≡ Ok x
   pub lies : Lies x (links_at s at) (at + node_length x.value)
 
-pub node_read : (m count : ℕ) (s : List ℕ) (end node at : ℕ) (x : Read Links) → read_node m count s end node at ≡ answer x → NodeRead m count s end node at x
+pub node_read : (m count : ℕ) (s : List ℕ) (end node at : ℕ) (x : Read Links) → read_node m count s end node at ≡ Ok x → NodeRead m count s end node at x
 unfolding read_node levels_test links_at
 node_read m count s end node at x e =
     let w = went PastTheEnd (ltb end (at + 1)) _ x e in
@@ -172,7 +172,7 @@ node_read m count s end node at x e =
     }
 
 pub node_within : (m count : ℕ) (s : List ℕ) (end node at : ℕ) (x : Read Links) → at ≤ end
-    → read_node m count s end node at ≡ answer x → (at ≤ x.next) × (x.next ≤ end)
+    → read_node m count s end node at ≡ Ok x → (at ≤ x.next) × (x.next ≤ end)
 node_within m count s end node at x h e =
     let r = node_read m count s end node at x e in
     let w =
@@ -180,13 +180,13 @@ node_within m count s end node at x h e =
     (λ k a y g f. let v = level_within m count s end node k a y g f in (omega arith, v.1)) (num s at 1) 0 (at + 1) x r.room r.listed in
     (omega arith, w.1)
 
-pub node_next : (m count : ℕ) (s : List ℕ) (end node at next : ℕ) → at ≤ end → next_told (read_node m count s end node at) ≡ Nexts.Next next → next ≤ end
+pub node_next : (m count : ℕ) (s : List ℕ) (end node at next : ℕ) → at ≤ end → next_told (read_node m count s end node at) ≡ Ok next → next ≤ end
 node_next m count s end node at next h e =
-    let f = found (read_node m count s end node at) next e in
-    subst (λ (n : ℕ). n ≤ end) f.next_is (node_within m count s end node at f.read h f.is).1
+    let f = sized_is (λ r. r.next) (read_node m count s end node at) next e in
+    subst (λ (n : ℕ). n ≤ end) f.size_is (node_within m count s end node at f.value h f.is).1
 
 pub nodes_read : (m count : ℕ) (s : List ℕ) (end n k at : ℕ) (x : Read Graph)
-    → several (read_node m count s end) n k at ≡ answer x → Lies x (graph_at n s at) (at + graph_length x.value)
+    → several (read_node m count s end) n k at ≡ Ok x → Lies x (graph_at n s at) (at + graph_length x.value)
 nodes_read m count s end zero k at x e =
     let i = answer_injective _ x e in
     let v : x.value ≡ [] = sym (ap (λ (y : Read Graph). y.value) i) in
@@ -209,7 +209,7 @@ nodes_read m count s end (suc n) k at x e =
 
 -- ---- tested
 pub level_tested : (m count : ℕ) (s : List ℕ) (end node level at : ℕ) (x : Read (List ℕ))
-    → read_level m count s end node level at ≡ answer x → level_test m count node level x.value ≡ passes
+    → read_level m count s end node level at ≡ Ok x → level_test m count node level x.value ≡ passes
 unfolding degree_test
 level_tested m count s end node level at x e =
     let r = level_read m count s end node level at x e in
@@ -226,7 +226,7 @@ level_tested m count s end node level at x e =
     simp (le-ltb _ _ few) all
 
 pub node_tested : (m count : ℕ) (s : List ℕ) (end node at : ℕ) (x : Read Links)
-    → read_node m count s end node at ≡ answer x → node_test m count node x.value ≡ passes
+    → read_node m count s end node at ≡ Ok x → node_test m count node x.value ≡ passes
 unfolding levels_test
 node_tested m count s end node at x e =
     let r = node_read m count s end node at x e in
@@ -238,7 +238,7 @@ node_tested m count s end node at x e =
     simp sized all
 
 pub nodes_tested : (m count : ℕ) (s : List ℕ) (end at : ℕ) (x : Read Graph)
-    → several (read_node m count s end) count 0 at ≡ answer x → nodes_test m count x.value ≡ passes
+    → several (read_node m count s end) count 0 at ≡ Ok x → nodes_test m count x.value ≡ passes
 nodes_tested m count s end at x e =
     several_tested (read_node m count s end) (node_test m count) count
     (λ k a y h g. node_tested m count s end k a y g) count 0 at x (omega arith) e

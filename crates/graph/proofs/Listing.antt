@@ -1,4 +1,5 @@
 -- The loops that test: one list of neighbours with its marks, and things in a row, each of which leaves marks behind. The invariant: the run from here is the whole run.
+use Rattle.std.specs.Prelude.{Ok, Err}
 use Prim.Native.Nat.{ℕ, ◌+◌, ◌*◌, ◌-◌, ◌≤◌, ◌<◌}
 use mathlib.Core.Path.{◌≡◌, sym, ap, subst, ◌∙◌}
 use mathlib.Core.Bool.{false}
@@ -7,54 +8,46 @@ use native.Mathlib.Omega.{arith}
 use borrow.Author.Tests.{eq-eqb, ne_eqb}
 use lib.ListN.{length, get_or, set, length-set}
 use Rattle.fields.specs.Fields.{num}
-use Rattle.refusal.specs.Refusal.{Result}
+use Rattle.refusal.specs.Refusal.{Answer}
 use Rattle.refusal.specs.declared.Refusal.{Refusal}
 use Rattle.refusal.specs.declared.Refusal.TheVariants.{PastTheEnd, WrongNeighbour}
+use Rattle.refusal.proofs.Results.{go_on, give_up}
 use Rattle.graph.specs.Graph.{among}
 use Rattle.graph.specs.Cache.{Read, numbers_at, several, read_neighbour}
 use Rattle.graph.specs.Marks.{Under, Marked}
 use Rattle.graph.specs.Told.{next_told}
-use Rattle.graph.specs.declared.ReadNext.TheVariants as Nexts
-use Rattle.graph.proofs.Several.{on_next, turn, over}
-use Rattle.graph.proofs.Marking.{under_more, under_set, marked_none, marked_more, numbers_more}
+use Rattle.graph.proofs.Several.{turn, over}
+use Rattle.graph.proofs.Marking.{under_set, marked_more, numbers_more}
 use Rattle.graph.proofs.Asked.{neighbour_past, neighbour_high, neighbour_self, neighbour_again, neighbour_good}
 
 -- ---- things in a row
-pub record Running {A : Type 0} (one : ℕ → ℕ → Result (Read A)) (end total first lent : ℕ) (marks : List ℕ) (at k : ℕ) : Type 0 where
-  pub few : k ≤ total
+pub record Running {A : Type 0} (one : ℕ → ℕ → Answer (Read A)) (end total first lent : ℕ) (marks : List ℕ) (at k : ℕ) : Type 0 where
   pub within : at ≤ end
   pub same : length marks ≡ lent
   pub under : Under marks (at + 1)
   pub whole : next_told (several one (total - k) k at) ≡ next_told (several one total 0 first)
 
-module _ {A : Type 0} {one : ℕ → ℕ → Result (Read A)} {end total first lent : ℕ} where
-  pub running_none : {marks : List ℕ} → first ≤ end → length marks ≡ lent → Under marks (first + 1) → Running one end total first lent marks first 0
-  running_none h l u =
-      let e : total - 0 ≡ total = omega arith in
-      record { few = omega arith; within = h; same = l; under = u; whole = ap (λ (n : ℕ). next_told (several one n 0 first)) e }
-
+module _ {A : Type 0} {one : ℕ → ℕ → Answer (Read A)} {end total first lent : ℕ} where
   pub running_more : {marks marks' : List ℕ} {at k next : ℕ} → Running one end total first lent marks at k → k < total
-      → next_told (one k at) ≡ Nexts.Next next → next ≤ end → length marks' ≡ length marks → Under marks' (next + 1)
+      → next_told (one k at) ≡ Ok next → next ≤ end → length marks' ≡ length marks → Under marks' (next + 1)
       → Running one end total first lent marks' next (k + 1)
   running_more {at = at} {k} r h e w l u =
       record {
-        few = omega arith;
         within = w;
         same = l ∙ r.same;
         under = u;
-        whole = sym (turn one total k at h ∙ ap (on_next (λ n. next_told (several one (total - (k + 1)) (k + 1) n))) e) ∙ r.whole;
+        whole = sym (turn one total k at h ∙ go_on _ _ _ e) ∙ r.whole;
       }
 
   pub running_stop : {marks : List ℕ} {at k : ℕ} {why : Refusal} → Running one end total first lent marks at k → k < total
-      → next_told (one k at) ≡ Nexts.Refused why → Nexts.Refused why ≡ next_told (several one total 0 first)
-  running_stop {at = at} {k} r h e = sym (turn one total k at h ∙ ap (on_next (λ n. next_told (several one (total - (k + 1)) (k + 1) n))) e) ∙ r.whole
+      → next_told (one k at) ≡ Err why → Err why ≡ next_told (several one total 0 first)
+  running_stop {at = at} {k} r h e = sym (turn one total k at h ∙ give_up _ _ _ e) ∙ r.whole
 
-  pub running_done : {marks : List ℕ} {at k : ℕ} → Running one end total first lent marks at k → total ≤ k → Nexts.Next at ≡ next_told (several one total 0 first)
+  pub running_done : {marks : List ℕ} {at k : ℕ} → Running one end total first lent marks at k → total ≤ k → Ok at ≡ next_told (several one total 0 first)
   running_done {at = at} {k} r h = sym (over one total k at h) ∙ r.whole
 
 -- ---- a list of neighbours
 pub record Listing (s : List ℕ) (end count node degree first lent : ℕ) (marks : List ℕ) (at i : ℕ) : Type 0 where
-  pub few : i ≤ degree
   pub place : at ≡ first + 4 * i
   pub within : at ≤ end
   pub same : length marks ≡ lent
@@ -65,38 +58,25 @@ pub record Listing (s : List ℕ) (end count node degree first lent : ℕ) (mark
       ≡ next_told (several (read_neighbour count s end node first) degree 0 first)
 
 module _ {s : List ℕ} {end count node degree first lent : ℕ} where
-  pub listing_none : {marks : List ℕ} → first ≤ end → length marks ≡ lent → Under marks first → Listing s end count node degree first lent marks first 0
-  listing_none {marks} h l u =
-      let e : degree - 0 ≡ degree = omega arith in
-      record {
-        few = omega arith;
-        place = omega arith;
-        within = h;
-        same = l;
-        under = under_more marks first (first + 1) (omega arith) u;
-        marked = marked_none count first marks u;
-        whole = ap (λ (n : ℕ). next_told (several (read_neighbour count s end node first) n 0 first)) e;
-      }
-
   module _ {marks : List ℕ} {at i : ℕ} (l : Listing s end count node degree first lent marks at i) (h : i < degree) where
-    stops : (why : Refusal) → next_told (read_neighbour count s end node first i at) ≡ Nexts.Refused why
-        → Nexts.Refused why ≡ next_told (several (read_neighbour count s end node first) degree 0 first)
+    stops : (why : Refusal) → next_told (read_neighbour count s end node first i at) ≡ Err why
+        → Err why ≡ next_told (several (read_neighbour count s end node first) degree 0 first)
     stops why e =
-        sym (turn (read_neighbour count s end node first) degree i at h ∙ ap (on_next (λ n. next_told (several (read_neighbour count s end node first) (degree - (i + 1)) (i + 1) n))) e)
+        sym (turn (read_neighbour count s end node first) degree i at h ∙ give_up _ _ _ e)
         ∙ l.whole
 
-    pub listing_past : end < at + 4 → Nexts.Refused PastTheEnd ≡ next_told (several (read_neighbour count s end node first) degree 0 first)
+    pub listing_past : end < at + 4 → Err PastTheEnd ≡ next_told (several (read_neighbour count s end node first) degree 0 first)
     listing_past r = stops PastTheEnd (neighbour_past count s end node first i at r)
 
     module _ {x : ℕ} (e : x ≡ num s at 4) (r : at + 4 ≤ end) where
-      pub listing_high : count ≤ x → Nexts.Refused WrongNeighbour ≡ next_told (several (read_neighbour count s end node first) degree 0 first)
+      pub listing_high : count ≤ x → Err WrongNeighbour ≡ next_told (several (read_neighbour count s end node first) degree 0 first)
       listing_high a = stops WrongNeighbour (neighbour_high count s end node first i at r (subst (λ (y : ℕ). count ≤ y) e a))
 
-      pub listing_self : x < count → x ≡ node → Nexts.Refused WrongNeighbour ≡ next_told (several (read_neighbour count s end node first) degree 0 first)
+      pub listing_self : x < count → x ≡ node → Err WrongNeighbour ≡ next_told (several (read_neighbour count s end node first) degree 0 first)
       listing_self a b = stops WrongNeighbour (neighbour_self count s end node first i at r (subst (λ (y : ℕ). y < count) e a) (sym e ∙ b))
 
       pub listing_again : x < count → (x ≡ node → ⊥) → get_or marks x 0 ≡ first
-          → Nexts.Refused WrongNeighbour ≡ next_told (several (read_neighbour count s end node first) degree 0 first)
+          → Err WrongNeighbour ≡ next_told (several (read_neighbour count s end node first) degree 0 first)
       listing_again a b f =
           stops WrongNeighbour
           (neighbour_again count s end node first i at r (subst (λ (y : ℕ). y < count) e a) (λ q. b (e ∙ q))
@@ -112,7 +92,6 @@ module _ {s : List ℕ} {end count node degree first lent : ℕ} where
           let list : numbers_at i s first ++ (x ∷ []) ≡ numbers_at (i + 1) s first =
           ap (λ (y : ℕ). numbers_at i s first ++ (y ∷ [])) (e ∙ ap (λ (a : ℕ). num s a 4) place) ∙ sym (numbers_more i s first) in
           record {
-            few = omega arith;
             place = omega arith;
             within = r;
             same = length-set marks x first ∙ same;
@@ -120,10 +99,10 @@ module _ {s : List ℕ} {end count node degree first lent : ℕ} where
             marked = subst (λ (b : List ℕ). Marked count first b (set marks x first)) list (marked_more count first (numbers_at i s first) marks x (omega arith) a l.marked);
             whole =
                 sym (turn (read_neighbour count s end node first) degree i at h
-                ∙ ap (on_next (λ n. next_told (several (read_neighbour count s end node first) (degree - (i + 1)) (i + 1) n))) good)
+                ∙ go_on _ _ _ good)
                 ∙ l.whole;
           }
 
   pub listing_done : {marks : List ℕ} {at i : ℕ} → Listing s end count node degree first lent marks at i → degree ≤ i
-      → Nexts.Next at ≡ next_told (several (read_neighbour count s end node first) degree 0 first)
+      → Ok at ≡ next_told (several (read_neighbour count s end node first) degree 0 first)
   listing_done {at = at} {i} l h = sym (over (read_neighbour count s end node first) degree i at h) ∙ l.whole

@@ -14,7 +14,7 @@ use Rattle.graph.specs.Layout.{links_length, node_length}
 use Rattle.graph.specs.Cache.{numbers_at, levels_at, links_at}
 use Rattle.graph.specs.Decoded.{height_at}
 use Rattle.graph.proofs.Decode.{length_numbers}
-use Rattle.graph.proofs.Walk.{levels_turn, levels_over, levels_length, links_first, lost_here, lost_on}
+use Rattle.graph.proofs.Walk.{levels_turn, levels_length, links_first, lost_on}
 
 -- ---- tests over lists
 pub any_none : {A : Type 0} (test : A → Bool) (d : A) (xs : List A) → ((i : ℕ) → i < length xs → test (get_or xs i d) ≡ false) → any_of test xs ≡ false
@@ -68,7 +68,6 @@ lost_above_lowest height (ns ∷ links) h =
 
 -- ---- the walk above the lowest level
 pub record Looking (s starts : List ℕ) (start levels : ℕ) (at level : ℕ) : Type 0 where
-  pub few : level ≤ levels
   pub inside : at + links_length (levels_at (levels - level) s at) ≤ length s
   pub near : (l i : ℕ) → get_or (get_or (levels_at (levels - level) s at) l []) i 0 < length starts
   pub whole :
@@ -82,10 +81,10 @@ lowest_room s start h t =
     let l = length_numbers (num s (start + 1) 4) s (start + 1 + 4) in
     omega arith
 
-module _ (s starts : List ℕ) (start levels : ℕ) where
-  pub looking_begin : (degree : ℕ) → levels ≡ get_or s start 0 → degree ≡ num s (start + 1) 4 → start + node_length (links_at s start) ≤ length s → 1 ≤ num s start 1
+module _ {s starts : List ℕ} {start levels : ℕ} where
+  pub looking_begin : {degree : ℕ} → levels ≡ get_or s start 0 → degree ≡ num s (start + 1) 4 → start + node_length (links_at s start) ≤ length s → 1 ≤ num s start 1
       → ((l i : ℕ) → get_or (get_or (links_at s start) l []) i 0 < length starts) → Looking s starts start levels (start + 5 + 4 * degree) 1
-  looking_begin degree e d h t near =
+  looking_begin {degree} e d h t near =
       let n : levels ≡ num s start 1 = e ∙ sym (num_one s start) in
       let p : start + 5 + 4 * degree ≡ start + 1 + 4 + 4 * num s (start + 1) 4 = omega arith in
       let rest : levels_at (levels - 1) s (start + 5 + 4 * degree) ≡ levels_at (num s start 1 - 1) s (start + 1 + 4 + 4 * num s (start + 1) 4) =
@@ -94,7 +93,6 @@ module _ (s starts : List ℕ) (start levels : ℕ) where
       let room = lowest_room s start h t in
       let size = ap links_length rest in
       record {
-        few = omega arith;
         inside = omega arith;
         near =
             λ l i.
@@ -103,28 +101,22 @@ module _ (s starts : List ℕ) (start levels : ℕ) where
         whole = ap (lost_from (height_at s starts) 1) (rest ∙ sym (ap (drop 1) first));
       }
 
-  module _ (at level : ℕ) (l : Looking s starts start levels at level) (h : level < levels) where
+  module _ {at level : ℕ} (l : Looking s starts start levels at level) (h : level < levels) where
     pub looking_room : at + 4 + 4 * num s at 4 ≤ length s
     looking_room = let i = l.inside in omega (arith, levels_length levels level s at h)
 
     pub looking_near : (i : ℕ) → get_or (numbers_at (num s at 4) s (at + 4)) i 0 < length starts
     looking_near i = subst (λ (links : Links). get_or (get_or links 0 []) i 0 < length starts) (levels_turn levels level s at h) (l.near 0 i)
 
-    pub looking_here : lost_at (height_at s starts) level (numbers_at (num s at 4) s (at + 4)) ≡ true → true ≡ lost_from (height_at s starts) 1 (drop 1 (links_at s start))
-    looking_here t =
-        sym (lost_here (height_at s starts) level (levels_at (levels - level) s at) (levels_at (levels - (level + 1)) s (at + 4 + 4 * num s at 4)) (numbers_at (num s at 4) s (at + 4)) (levels_turn levels level s at h) t)
-        ∙ l.whole
-
-    pub looking_more : (degree : ℕ) → degree ≡ num s at 4 → lost_at (height_at s starts) level (numbers_at (num s at 4) s (at + 4)) ≡ false
+    pub looking_more : {degree : ℕ} → degree ≡ num s at 4 → lost_at (height_at s starts) level (numbers_at (num s at 4) s (at + 4)) ≡ false
         → Looking s starts start levels (at + (4 + 4 * degree)) (level + 1)
-    looking_more degree d t =
+    looking_more {degree} d t =
         let p : at + (4 + 4 * degree) ≡ at + 4 + 4 * num s at 4 = omega arith in
         let turn = levels_turn levels level s at h in
         let rest = ap (levels_at (levels - (level + 1)) s) p in
         let size = ap links_length rest in
         let i = l.inside in
         record {
-          few = omega arith;
           inside = omega (arith, levels_length levels level s at h);
           near =
               λ k i.
@@ -135,6 +127,3 @@ module _ (s starts : List ℕ) (start levels : ℕ) where
               ∙ sym (lost_on (height_at s starts) level (levels_at (levels - level) s at) (levels_at (levels - (level + 1)) s (at + 4 + 4 * num s at 4)) (numbers_at (num s at 4) s (at + 4)) turn t)
               ∙ l.whole;
         }
-
-  pub looking_done : (at level : ℕ) → Looking s starts start levels at level → levels ≤ level → false ≡ lost_from (height_at s starts) 1 (drop 1 (links_at s start))
-  looking_done at level l h = sym (ap (lost_from (height_at s starts) level) (levels_over levels level s at h)) ∙ l.whole

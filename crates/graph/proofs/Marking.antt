@@ -5,9 +5,9 @@ use mathlib.Core.Bool.{Bool, true, false, cond}
 use mathlib.Core.List.{List, [], ◌∷◌, ◌++◌}
 use native.Mathlib.Numerals.{add-one}
 use native.Mathlib.Omega.{arith}
-use borrow.Author.Tests.{eq-eqb, ne_eqb, eqb-true, eqb-false}
+use borrow.Author.Tests.{eq-eqb, eqb-true, eqb-false}
 use lib.Dec.{eqb}
-use lib.ListN.{length, get_or, set, replicate}
+use lib.ListN.{length, get_or, set}
 use lib.Seq.{get_or-set_same, get_or-set_other}
 use Rattle.fields.specs.Fields.{num}
 use Rattle.graph.specs.Graph.{among}
@@ -16,14 +16,6 @@ use Rattle.graph.specs.Marks.{Under, Marked}
 
 pub under_more : (marks : List ℕ) (a b : ℕ) → a ≤ b → Under marks a → Under marks b
 under_more marks a b h u = record { under = λ x. let k = u.under x in omega arith }
-
-pub under_zeros : (n : ℕ) → Under (replicate n 0) 1
-under_zeros n = record { under = go n }
-  where
-    go : (n x : ℕ) → get_or (replicate n 0) x 0 < 1
-    go zero x = omega arith
-    go (suc n) zero = omega arith
-    go (suc n) (suc x) = go n x
 
 pub under_set : (marks : List ℕ) (x mark : ℕ) → Under marks (mark + 1) → Under (set marks x mark) (mark + 1)
 under_set marks x mark u = record { under = λ y. go marks x y (u.under y) }
@@ -34,11 +26,6 @@ under_set marks x mark u = record { under = λ y. go marks x y (u.under y) }
     go (a ∷ l) zero (suc y) h = h
     go (a ∷ l) (suc x) zero h = h
     go (a ∷ l) (suc x) (suc y) h = go l x y h
-
--- no node has a mark that is above all
-pub marked_none : (count mark : ℕ) (marks : List ℕ) → Under marks mark → Marked count mark [] marks
-marked_none count mark marks u =
-    record { marked = λ x h. ne_eqb (get_or marks x 0) mark (λ e. let k = u.under x in omega arith) }
 
 among_last : (x : ℕ) (l : List ℕ) → among x (l ++ (x ∷ [])) ≡ true
 among_last x [] = ap (λ (t : Bool). cond t true false) (eq-eqb x x refl)

@@ -46,23 +46,13 @@ starts_of count s = starts_from first_node (graph_at count s first_node)
 
 -- ---- filling
 pub record Filling (s : List ℕ) (count : ℕ) (lent starts : List ℕ) (at i : ℕ) : Type 0 where
-  pub few : i ≤ count
   pub same : length starts ≡ length lent
   pub ends : at + graph_length (graph_at (count - i) s at) ≡ first_node + graph_length (graph_at count s first_node)
   pub rest : drop i (starts_from first_node (graph_at count s first_node)) ≡ starts_from at (graph_at (count - i) s at)
   pub filled : starts ≡ take i (starts_from first_node (graph_at count s first_node)) ++ drop i lent
 
 module _ (s : List ℕ) (count : ℕ) (lent : List ℕ) where
-  pub filling_none : Filling s count lent lent first_node 0
-  filling_none =
-      let e : count - 0 ≡ count = omega arith in
-      let g = ap (λ (n : ℕ). graph_at n s first_node) e in
-      record { few = omega arith; same = refl; ends = ap (λ (x : Graph). first_node + graph_length x) g; rest = sym (ap (starts_from first_node) g); filled = refl }
-
   module _ (starts : List ℕ) (at i : ℕ) (f : Filling s count lent starts at i) (h : i < count) where
-    pub filling_room : first_node + graph_length (graph_at count s first_node) ≤ length s → at + node_length (links_at s at) ≤ length s
-    filling_room r = let e = ap graph_length (graph_turn count i s at h) in let k = f.ends in omega arith
-
     pub filling_more : count ≤ length lent → (next : ℕ) → next ≡ at + node_length (links_at s at) → Filling s count lent (set starts i at) next (i + 1)
     filling_more l next n =
         let turn = graph_turn count i s at h in
@@ -73,17 +63,15 @@ module _ (s : List ℕ) (count : ℕ) (lent : List ℕ) where
         let moved-size = ap graph_length moved in
         let long = length_starts first_node (graph_at count s first_node) ∙ length_graph count s first_node in
         record {
-          few = omega arith;
           same = length-set starts i at ∙ f.same;
           ends = omega arith;
           rest = d.1 ∙ sym (ap₂ starts_from n moved);
           filled = ap (λ (x : List ℕ). set x i at) f.filled ∙ set_more i at (starts_of count s) lent (omega arith) (omega arith) d.0;
         }
 
-  pub filling_done : (starts : List ℕ) (at i : ℕ) → Filling s count lent starts at i → count ≤ i
+  pub filling_done : (starts : List ℕ) (at i : ℕ) → Filling s count lent starts at i → i ≤ count → count ≤ i
       → starts ≡ starts_from first_node (graph_at count s first_node) ++ drop count lent
-  filling_done starts at i f h =
-      let few = f.few in
+  filling_done starts at i f few h =
       let e : i ≡ count = omega arith in
       let long = length_starts first_node (graph_at count s first_node) ∙ length_graph count s first_node in
       f.filled

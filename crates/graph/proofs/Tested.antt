@@ -1,4 +1,5 @@
 -- A graph that passes its tests is sound. Of bytes nothing is said.
+use Rattle.std.specs.Prelude.{Option, Some}
 use Prim.Native.Nat.{ℕ, ◌+◌, ◌≤◌, ◌<◌}
 use mathlib.Core.Path.{◌≡◌, refl, sym, ap, ◌∙◌}
 use mathlib.Core.Bool.{Bool, true, false, not}
@@ -16,9 +17,7 @@ use Rattle.refusal.specs.declared.Refusal.TheVariants.{WrongLevels, WrongDegree,
 use Rattle.refusal.proofs.Results.{went, passed, not_refused}
 use Rattle.graph.specs.Graph.{Graph, links_of, levels_of, neighbours_of, among, each, min_levels, max_levels, degree_limit, neighbour_test, degree_test, levels_test, level_test, node_test, nodes_test, lost_at, lost_from, edge_lost, entry_below, linked_test}
 use Rattle.graph.specs.Sound.{neighbour, Edge, Sound}
-use Rattle.graph.specs.declared.Entry.{Entry}
-use Rattle.graph.specs.declared.Entry.TheVariants as Entries
-use Rattle.graph.proofs.Several.{each_at, did_pass}
+use Rattle.graph.proofs.Several.{each_at}
 use Rattle.graph.proofs.Lost.{none_at, lost_none_at}
 
 pub record Neighbourly (count node : ℕ) (before : List ℕ) (x : ℕ) : Type 0 where
@@ -54,7 +53,7 @@ module _ (m count : ℕ) (g : Graph) (sized : length g ≡ count) (tested : node
   pub levels_bounds : (node : ℕ) → node < count → (min_levels ≤ levels_of g node) × (levels_of g node ≤ max_levels)
   levels_bounds node h =
       let p = passed (levels_test (length (links_of g node))) (λ _. each (level_test m count node) 0 (links_of g node)) tt (node_passes node h) in
-      levels_within (length (links_of g node)) (did_pass _ p.value p.first)
+      levels_within (length (links_of g node)) p.first
 
   level_passes : (node level : ℕ) → node < count → level < levels_of g node → level_test m count node level (neighbours_of g node level) ≡ passes
   level_passes node level h k =
@@ -66,7 +65,7 @@ module _ (m count : ℕ) (g : Graph) (sized : length g ≡ count) (tested : node
   degree_bound node level h k =
       let ns = neighbours_of g node level in
       let p = passed (degree_test m level (length ns)) (λ _. each (λ i x. neighbour_test count node (take i ns) x) 0 ns) tt (level_passes node level h k) in
-      degree_within m level (length ns) (did_pass _ p.value p.first)
+      degree_within m level (length ns) p.first
 
   pub neighbour_passes : (node level i : ℕ) → node < count → level < levels_of g node → i < length (neighbours_of g node level)
       → Neighbourly count node (take i (neighbours_of g node level)) (neighbour g node level i)
@@ -101,7 +100,7 @@ module _ (m count : ℕ) (g : Graph) (sized : length g ≡ count) (tested : node
       let n = none_at (eqb x) 0 (take j ns) f i (omega arith) in
       eqb-false x (get_or (take j ns) i 0) n (sym q ∙ sym (get_or-take j ns i 0 h))
 
-  module _ (entry : Entry) (linked : linked_test entry g ≡ passes) where
+  module _ (entry : Option Node) (linked : linked_test entry g ≡ passes) where
     no_edge_lost : edge_lost (levels_of g) g ≡ false
     unfolding linked_test
     no_edge_lost = (went EdgeToMissingLevel (edge_lost (levels_of g) g) _ tt linked).test_false
@@ -119,9 +118,9 @@ module _ (m count : ℕ) (g : Graph) (sized : length g ≡ count) (tested : node
         sym (ap (λ (n : ℕ). lost_at (levels_of g) n (neighbours_of g node level)) z) ∙ lost_none_at (levels_of g) 0 (links_of g node) a level e.level_in in
         leb-false _ _ (none_at (λ x. leb (levels_of g x) level) 0 (neighbours_of g node level) b i e.place_in)
 
-    top : (e : Node) → entry ≡ Entries.Node e → (node : ℕ) → node < count → levels_of g node ≤ levels_of g e.0
+    top : (e : Node) → entry ≡ Some e → (node : ℕ) → node < count → levels_of g node ≤ levels_of g e.0
     top e q node h =
-        let b : entry_below (levels_of g) (Entries.Node e) g ≡ false = ap (λ (x : Entry). entry_below (levels_of g) x g) (sym q) ∙ not_below in
+        let b : entry_below (levels_of g) (Some e) g ≡ false = ap (λ (x : Option Node). entry_below (levels_of g) x g) (sym q) ∙ not_below in
         ltb-false _ _ (none_at (λ links. ltb (levels_of g e.0) (length links)) [] g b node (omega arith))
 
     pub sound_of_tests : Sound m count entry g

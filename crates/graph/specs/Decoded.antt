@@ -1,11 +1,10 @@
 -- A graph as its bytes stand for it, unasked; and what holds of a table of starts once the graph has passed 46 to 48.
-use Rattle.std.specs.Prelude.{ℕ, zero, suc, ◌+◌, ◌<◌, ◌≤◌, ◌≡◌, List, [], ◌∷◌, length, get_or}
+use Rattle.std.specs.Prelude.{ℕ, zero, suc, ◌+◌, ◌<◌, ◌≤◌, ◌≡◌, List, [], ◌∷◌, length, get_or, Option, Some, None}
 use Rattle.fields.specs.Fields.{num}
 use Rattle.graph.specs.Graph.{Graph, links_of, neighbours_of}
 use Rattle.graph.specs.Layout.{first_node, node_length}
 use Rattle.graph.specs.Cache.{links_at}
-use Rattle.graph.specs.declared.Entry.{Entry}
-use Rattle.graph.specs.declared.Entry.TheVariants as Entries
+use Rattle.rows.specs.declared.Node.{Node}
 
 -- n nodes from `at`
 abbrev pub graph_at : ℕ → List ℕ → ℕ → Graph
@@ -26,6 +25,6 @@ pub record Laid (s starts : List ℕ) (count : ℕ) : Type 0 where
   pub near : (k level i : ℕ) → k < count → get_or (neighbours_of (graph_at count s first_node) k level) i 0 < count
 
 -- an entry that passed 42
-abbrev pub EntryIn : ℕ → Entry → Type 0
-EntryIn count (Entries.Node n) = n.0 < count
-EntryIn count Entries.None = Unit {0}
+abbrev pub EntryIn : ℕ → Option Node → Type 0
+EntryIn count (Some n) = n.0 < count
+EntryIn count None = Unit {0}

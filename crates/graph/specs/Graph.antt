@@ -1,10 +1,9 @@
 -- A graph by value, and what is accepted of it: 46, 47, 48 node by node, then 49, then 50. No byte is spoken of, so a graph can be asked before it is written.
-use Rattle.std.specs.Prelude.{ℕ, suc, ◌*◌, Bool, true, false, not, cond, List, [], ◌∷◌, ltb, leb, eqb, length, get_or, take}
-use Rattle.refusal.specs.Refusal.{Result, answer, ◌>>=◌, refuse, passes}
+use Rattle.std.specs.Prelude.{ℕ, suc, ◌*◌, Bool, true, false, not, cond, List, [], ◌∷◌, ltb, leb, eqb, length, get_or, take, Option, Some, None, Ok}
+use Rattle.refusal.specs.Refusal.{Answer, ◌>>=◌, refuse, passes}
 use Rattle.refusal.specs.declared.Refusal.TheVariants.{WrongEntry, MissingEntry, WrongLevels, WrongDegree, WrongNeighbour, EdgeToMissingLevel, EntryBelowHighest}
 use Rattle.config.specs.Settings.{in_range}
-use Rattle.graph.specs.declared.Entry.{Entry}
-use Rattle.graph.specs.declared.Entry.TheVariants as Entries
+use Rattle.rows.specs.declared.Node.{Node}
 
 -- a node's neighbours at each of its levels, from level 0 up
 abbrev pub Links : Type 0
@@ -46,7 +45,7 @@ abbrev pub among : ℕ → List ℕ → Bool
 among x = any_of (eqb x)
 
 -- a test of each, which is told its place; the first place is k
-abbrev pub each : {A : Type 0} → (ℕ → A → Result (Unit {0})) → ℕ → List A → Result (Unit {0})
+abbrev pub each : {A : Type 0} → (ℕ → A → Answer (Unit {0})) → ℕ → List A → Answer (Unit {0})
 each test k [] = passes
 each test k (x ∷ xs) = do
   _ ← test k x
@@ -54,29 +53,29 @@ each test k (x ∷ xs) = do
 
 -- ---- node by node
 -- 48: out of range, the node itself, or one of those before it
-unfoldable pub neighbour_test : ℕ → ℕ → List ℕ → ℕ → Result (Unit {0})
+unfoldable pub neighbour_test : ℕ → ℕ → List ℕ → ℕ → Answer (Unit {0})
 neighbour_test count node before x = do
   _ ← refuse WrongNeighbour (leb count x)
   _ ← refuse WrongNeighbour (eqb x node)
   refuse WrongNeighbour (among x before)
 
-unfoldable pub degree_test : ℕ → ℕ → ℕ → Result (Unit {0})
+unfoldable pub degree_test : ℕ → ℕ → ℕ → Answer (Unit {0})
 degree_test m level degree = refuse WrongDegree (ltb (degree_limit m level) degree)
 
-unfoldable pub levels_test : ℕ → Result (Unit {0})
+unfoldable pub levels_test : ℕ → Answer (Unit {0})
 levels_test levels = refuse WrongLevels (not (in_range levels min_levels max_levels))
 
-abbrev pub level_test : ℕ → ℕ → ℕ → ℕ → List ℕ → Result (Unit {0})
+abbrev pub level_test : ℕ → ℕ → ℕ → ℕ → List ℕ → Answer (Unit {0})
 level_test m count node level neighbours = do
   _ ← degree_test m level (length neighbours)
   each (λ k x. neighbour_test count node (take k neighbours) x) 0 neighbours
 
-abbrev pub node_test : ℕ → ℕ → ℕ → Links → Result (Unit {0})
+abbrev pub node_test : ℕ → ℕ → ℕ → Links → Answer (Unit {0})
 node_test m count node links = do
   _ ← levels_test (length links)
   each (level_test m count node) 0 links
 
-abbrev pub nodes_test : ℕ → ℕ → Graph → Result (Unit {0})
+abbrev pub nodes_test : ℕ → ℕ → Graph → Answer (Unit {0})
 nodes_test m count g = each (node_test m count) 0 g
 
 -- ---- the whole, where `height` is how many levels a node has
@@ -92,18 +91,18 @@ abbrev pub edge_lost : (ℕ → ℕ) → Graph → Bool
 edge_lost height = any_of (lost_from height 0)
 
 -- some node has more levels than the entry
-abbrev pub entry_below : (ℕ → ℕ) → Entry → Graph → Bool
-entry_below height (Entries.Node n) g = any_of (λ links. ltb (height n.0) (length links)) g
-entry_below height Entries.None g = false
+abbrev pub entry_below : (ℕ → ℕ) → Option Node → Graph → Bool
+entry_below height (Some n) g = any_of (λ links. ltb (height n.0) (length links)) g
+entry_below height None g = false
 
 -- 49, 50
-unfoldable pub linked_test : Entry → Graph → Result (Unit {0})
+unfoldable pub linked_test : Option Node → Graph → Answer (Unit {0})
 linked_test entry g = do
   _ ← refuse EdgeToMissingLevel (edge_lost (levels_of g) g)
   refuse EntryBelowHighest (entry_below (levels_of g) entry g)
 
 -- all that is asked of a graph
-unfoldable pub graph_test : ℕ → ℕ → Entry → Graph → Result (Unit {0})
+unfoldable pub graph_test : ℕ → ℕ → Option Node → Graph → Answer (Unit {0})
 graph_test m count entry g = do
   _ ← nodes_test m count g
   linked_test entry g
@@ -114,7 +113,7 @@ abbrev pub no_entry : ℕ
 no_entry = 0xffffffffffffffff
 
 -- 42, 43
-unfoldable pub entry_of : ℕ → ℕ → Result Entry
+unfoldable pub entry_of : ℕ → ℕ → Answer (Option Node)
 entry_of count n =
-    cond (eqb n no_entry) (refuse MissingEntry (ltb 0 count) >>= λ _. answer Entries.None)
-    (refuse WrongEntry (leb count n) >>= λ _. answer (Entries.Node (record { 0 = n })))
+    cond (eqb n no_entry) (refuse MissingEntry (ltb 0 count) >>= λ _. Ok None)
+    (refuse WrongEntry (leb count n) >>= λ _. Ok (Some (record { 0 = n })))

@@ -1,10 +1,9 @@
 -- The cache's layout: the bytes of a graph and of the whole file, how long they are, and where each node begins.
-use Rattle.std.specs.Prelude.{ℕ, ◌+◌, ◌*◌, List, [], ◌∷◌, ◌++◌, length}
+use Rattle.std.specs.Prelude.{ℕ, ◌+◌, ◌*◌, List, [], ◌∷◌, ◌++◌, length, Option, Some, None}
 use Rattle.fields.specs.Fields.{bytes}
 use Rattle.crc32.specs.Crc.{crc_of}
 use Rattle.graph.specs.Graph.{Links, Graph, no_entry}
-use Rattle.graph.specs.declared.Entry.{Entry}
-use Rattle.graph.specs.declared.Entry.TheVariants as Entries
+use Rattle.rows.specs.declared.Node.{Node}
 
 -- "VECGRAPH"
 abbrev pub cache_magic : List ℕ
@@ -55,19 +54,19 @@ node_bytes links = bytes 1 (length links) ++ joined level_bytes links
 abbrev pub graph_bytes : Graph → List ℕ
 graph_bytes = joined node_bytes
 
-abbrev pub entry_number : Entry → ℕ
-entry_number (Entries.Node n) = n.0
-entry_number Entries.None = no_entry
+abbrev pub entry_number : Option Node → ℕ
+entry_number (Some n) = n.0
+entry_number None = no_entry
 
-abbrev pub header_bytes : ℕ → ℕ → ℕ → Entry → ℕ → List ℕ
+abbrev pub header_bytes : ℕ → ℕ → ℕ → Option Node → ℕ → List ℕ
 header_bytes snapshot_crc sequence nodes entry rng =
     cache_magic ++ bytes 4 version ++ bytes 4 snapshot_crc ++ bytes 8 sequence ++ bytes 8 nodes ++ bytes 8 (entry_number entry) ++ bytes 8 rng
 
-abbrev pub body_bytes : ℕ → ℕ → ℕ → Entry → Graph → List ℕ
+abbrev pub body_bytes : ℕ → ℕ → ℕ → Option Node → Graph → List ℕ
 body_bytes snapshot_crc sequence rng entry g = header_bytes snapshot_crc sequence (length g) entry rng ++ graph_bytes g
 
 -- CRC last
-abbrev pub cache_bytes : ℕ → ℕ → ℕ → Entry → Graph → List ℕ
+abbrev pub cache_bytes : ℕ → ℕ → ℕ → Option Node → Graph → List ℕ
 cache_bytes snapshot_crc sequence rng entry g =
     body_bytes snapshot_crc sequence rng entry g ++ bytes 4 (crc_of (body_bytes snapshot_crc sequence rng entry g))
 

@@ -1,9 +1,7 @@
 -- What holds of every graph that is accepted, in document 01's words.
-use Rattle.std.specs.Prelude.{ℕ, ◌≤◌, ◌<◌, ◌≡◌, length, get_or}
+use Rattle.std.specs.Prelude.{ℕ, ◌≤◌, ◌<◌, ◌≡◌, length, get_or, Option, Some}
 use Rattle.rows.specs.declared.Node.{Node}
 use Rattle.graph.specs.Graph.{Graph, neighbours_of, levels_of, degree_limit, min_levels, max_levels}
-use Rattle.graph.specs.declared.Entry.{Entry}
-use Rattle.graph.specs.declared.Entry.TheVariants as Entries
 
 -- the i-th neighbour of a node at a level
 abbrev pub neighbour : Graph → ℕ → ℕ → ℕ → ℕ
@@ -15,7 +13,7 @@ pub record Edge (count : ℕ) (g : Graph) (node level i : ℕ) : Type 0 where
   pub level_in : level < levels_of g node
   pub place_in : i < length (neighbours_of g node level)
 
-pub record Sound (m count : ℕ) (entry : Entry) (g : Graph) : Type 0 where
+pub record Sound (m count : ℕ) (entry : Option Node) (g : Graph) : Type 0 where
   pub counted : length g ≡ count
   pub tall : (node : ℕ) → node < count → min_levels ≤ levels_of g node
   pub low : (node : ℕ) → node < count → levels_of g node ≤ max_levels
@@ -24,4 +22,4 @@ pub record Sound (m count : ℕ) (entry : Entry) (g : Graph) : Type 0 where
   pub another : (node level i : ℕ) → Edge count g node level i → neighbour g node level i ≡ node → ⊥
   pub once : (node level i j : ℕ) → Edge count g node level i → Edge count g node level j → neighbour g node level i ≡ neighbour g node level j → i ≡ j
   pub has_level : (node level i : ℕ) → Edge count g node level i → level < levels_of g (neighbour g node level i)
-  pub highest : (e : Node) → entry ≡ Entries.Node e → (node : ℕ) → node < count → levels_of g node ≤ levels_of g e.0
+  pub highest : (e : Node) → entry ≡ Some e → (node : ℕ) → node < count → levels_of g node ≤ levels_of g e.0

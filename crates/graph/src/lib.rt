@@ -3,72 +3,41 @@
 // specs/Neighbours.antt for the view; specs/Told.antt says how an answer tells them.
 #![tactic(auto)]
 
-ghost use Rattle.std.specs.Prelude.{◌≡◌, [], ◌++◌, ℕ, ◌+◌, ◌*◌, ◌-◌, ◌≤◌, ◌<◌, ltb, length, get_or, take, drop, replicate};
+ghost use Rattle.std.specs.Prelude.{◌≡◌, [], ◌++◌, ℕ, ◌+◌, ◌*◌, ◌-◌, ◌≤◌, ◌<◌, ltb, length, get_or, take, drop, replicate, Ok, IsOk};
 ghost use Rattle.fields.specs.Fields.{num};
 ghost use Rattle.config.specs.Limits.{min_cache_bytes, max_records, max_m};
-ghost use Rattle.refusal.specs.Refusal.{answer, checked, number_told};
+ghost use Rattle.refusal.specs.Refusal.{number_told};
 ghost use Rattle.graph.specs.Graph.{Graph, degree_limit, any_of, lost_at, lost_from, edge_lost, entry_of, linked_test};
 ghost use Rattle.graph.specs.Layout.{first_node, node_length, graph_length, starts_from};
 ghost use Rattle.graph.specs.Cache.{numbers_at, links_at, several, read_neighbour, read_level, read_node, read_nodes, head_test, room_test, read_header as header_of, read_body, read_graph, read_cache as cache_of};
 ghost use Rattle.graph.specs.Decoded.{graph_at, height_at, Laid, EntryIn};
 ghost use Rattle.graph.specs.Neighbours.{level_part, level_above, neighbours as neighbours_of, part_given, part_of};
 ghost use Rattle.graph.specs.Marks.{Under, Walks};
-ghost use Rattle.graph.specs.Told.{entry_told, header_told, next_told, pass_told, cache_told, starts_after, shown_told, part_start};
+ghost use Rattle.graph.specs.Told.{next_told, pass_told, cache_told, starts_after, part_start};
 
 use config::Config;
-use refusal::{Checked, Refusal};
+use refusal::Refusal;
 use rows::Node;
 
-// Where a search begins.
-#[derive(Clone, Copy)]
-pub enum Entry {
-    Node(Node),
-    None,
-}
-
-#[derive(Clone, Copy)]
-enum ReadEntry {
-    Read(Entry),
-    Refused(Refusal),
-}
-
+// The entry is where a search begins.
 #[derive(Clone, Copy)]
 pub struct CacheHeader {
-    pub entry: Entry,
+    pub entry: Option<Node>,
     pub rng_state: u64,
-}
-
-#[derive(Clone, Copy)]
-enum ReadCacheHeader {
-    Read(CacheHeader),
-    Refused(Refusal),
-}
-
-// Where what follows begins.
-#[derive(Clone, Copy)]
-enum ReadNext {
-    Next(usize),
-    Refused(Refusal),
 }
 
 #[derive(Clone, Copy)]
 pub struct CacheInfo {
     pub nodes: usize,
-    pub entry: Entry,
+    pub entry: Option<Node>,
     pub rng_state: u64,
-}
-
-#[derive(Clone, Copy)]
-pub enum ReadCache {
-    Accepted(CacheInfo),
-    Refused(Refusal),
 }
 
 // A part of the cache: its first byte, its length.
 #[derive(Clone, Copy)]
-pub enum ShownLevel {
-    Part(usize, usize),
-    Refused(Refusal),
+pub struct CachePart {
+    pub at: usize,
+    pub size: usize,
 }
 
 // "VECGRAPH", as its 8 bytes are read.
@@ -99,71 +68,75 @@ const MAX_LEVELS: usize = 33;
 // ---- the header
 
 // 1, 40, 41.
-fn check_head(s: &[u8], crc: u32, sequence: u64, count: usize) -> Checked
-    ensures { result ≡ checked (head_test crc sequence count s.now) }
+#[tactic(auto, using(crate::proofs::Head::magic_is), unfolding(crate::specs::Cache::head_test))]
+fn check_head(s: &[u8], crc: u32, sequence: u64, count: usize) -> Result<(), Refusal>
+    ensures { result ≡ head_test crc sequence count s.now }
 {
     if s.len() < Config::MIN_CACHE_BYTES {
-        return Checked::Refused(Refusal::LengthOutOfBounds);
+        return Err(Refusal::LengthOutOfBounds);
     }
     if Config::MAX_CACHE_BYTES < s.len() {
-        return Checked::Refused(Refusal::LengthOutOfBounds);
+        return Err(Refusal::LengthOutOfBounds);
     }
     if fields::get_u64(s, 0) != MAGIC {
-        return Checked::Refused(Refusal::StaleCache);
+        return Err(Refusal::StaleCache);
     }
     if fields::get_u32(s, VERSION_PLACE) != VERSION {
-        return Checked::Refused(Refusal::StaleCache);
+        return Err(Refusal::StaleCache);
     }
     if fields::get_u32(s, SNAPSHOT_CRC_PLACE) != crc {
-        return Checked::Refused(Refusal::StaleCache);
+        return Err(Refusal::StaleCache);
     }
     if fields::get_u64(s, SEQUENCE_PLACE) != sequence {
-        return Checked::Refused(Refusal::StaleCache);
+        return Err(Refusal::StaleCache);
     }
     if fields::get_u64(s, NODES_PLACE) != (count as u64) {
-        return Checked::Refused(Refusal::WrongNodeCount);
+        return Err(Refusal::WrongNodeCount);
     }
     if Config::MAX_RECORDS < count {
-        return Checked::Refused(Refusal::WrongNodeCount);
+        return Err(Refusal::WrongNodeCount);
     }
-    Checked::Passed
+    Ok(())
 }
 
 // 42, 43.
-fn read_entry(count: usize, n: u64) -> ReadEntry
+#[tactic(auto, unfolding(crate::specs::Graph::entry_of))]
+fn read_entry(count: usize, n: u64) -> Result<Option<Node>, Refusal>
     requires { count ≤ max_records }
-    ensures { result ≡ entry_told (entry_of count n) }
+    ensures { result ≡ entry_of count n }
 {
     if n == NO_ENTRY {
         if 0 < count {
-            return ReadEntry::Refused(Refusal::MissingEntry);
+            return Err(Refusal::MissingEntry);
         }
-        return ReadEntry::Read(Entry::None);
+        return Ok(None);
     }
     if (count as u64) <= n {
-        return ReadEntry::Refused(Refusal::WrongEntry);
+        return Err(Refusal::WrongEntry);
     }
-    ReadEntry::Read(Entry::Node(Node(n as u32)))
+    Ok(Some(Node(n as u32)))
 }
 
 // 44, 45, 51.
-fn check_room(s: &[u8], seed: u64, count: usize, lent: usize) -> Checked
+#[tactic(auto, unfolding(crate::specs::Cache::room_test))]
+fn check_room(s: &[u8], seed: u64, count: usize, lent: usize) -> Result<(), Refusal>
     requires { min_cache_bytes ≤ length s.now }
-    ensures { result ≡ checked (room_test seed count lent s.now) }
+    ensures { result ≡ room_test seed count lent s.now }
 {
     if fields::get_u64(s, RNG_PLACE) != rng::rng_state(seed, count as u64) {
-        return Checked::Refused(Refusal::WrongRngState);
+        return Err(Refusal::WrongRngState);
     }
     if (s.len() - layout::CRC_LENGTH - FIRST_NODE) / 5 < count {
-        return Checked::Refused(Refusal::CountOverBytes);
+        return Err(Refusal::CountOverBytes);
     }
     if lent < count {
-        return Checked::Refused(Refusal::TooFewStarts);
+        return Err(Refusal::TooFewStarts);
     }
-    Checked::Passed
+    Ok(())
 }
 
 // 6, 7, 8, 1, 40 to 45, 51.
+#[tactic(auto, using(crate::proofs::Head::head_passed), unfolding(crate::specs::Cache::read_header))]
 fn read_header(
     s: &[u8],
     config: Config,
@@ -171,40 +144,21 @@ fn read_header(
     sequence: u64,
     count: usize,
     lent: usize,
-) -> ReadCacheHeader
-    ensures { result ≡ header_told (header_of config crc sequence count lent s.now) }
+) -> Result<CacheHeader, Refusal>
+    ensures { result ≡ header_of config crc sequence count lent s.now }
 {
-    match config.validate() {
-        Checked::Passed => {}
-        Checked::Refused(why) => {
-            return ReadCacheHeader::Refused(why);
-        }
-    }
-    match check_head(s, crc, sequence, count) {
-        Checked::Passed => {}
-        Checked::Refused(why) => {
-            return ReadCacheHeader::Refused(why);
-        }
-    }
-    let entry = match read_entry(count, fields::get_u64(s, ENTRY_PLACE)) {
-        ReadEntry::Read(e) => e,
-        ReadEntry::Refused(why) => {
-            return ReadCacheHeader::Refused(why);
-        }
-    };
-    match check_room(s, config.seed, count, lent) {
-        Checked::Passed => {}
-        Checked::Refused(why) => {
-            return ReadCacheHeader::Refused(why);
-        }
-    }
+    config.validate()?;
+    check_head(s, crc, sequence, count)?;
+    let entry = read_entry(count, fields::get_u64(s, ENTRY_PLACE))?;
+    check_room(s, config.seed, count, lent)?;
     let rng_state = fields::get_u64(s, RNG_PLACE);
-    ReadCacheHeader::Read(CacheHeader { entry, rng_state })
+    Ok(CacheHeader { entry, rng_state })
 }
 
 // ---- nodes in order
 
 // A list of neighbours. Each is marked with where the list begins, so one that stood before in this list, and in no other, bears that mark.
+#[tactic(auto, using(crate::proofs::Listing::listing_past, crate::proofs::Listing::listing_self, crate::proofs::Listing::listing_done))]
 fn check_neighbours(
     s: &[u8],
     end: usize,
@@ -213,7 +167,7 @@ fn check_neighbours(
     degree: usize,
     first: usize,
     marks: &mut [u64],
-) -> ReadNext
+) -> Result<usize, Refusal>
     requires end_in_bounds { end ≤ length s.now }
     requires first_le_end { first ≤ end }
     requires count_in_bounds { count ≤ length marks.old }
@@ -223,29 +177,28 @@ fn check_neighbours(
 {
     let mark = first as u64;
     let mut at = first;
-    let mut i: usize = 0;
-    while i < degree {
+    for _ in 0..degree {
         if end - at < 4 {
-            return ReadNext::Refused(Refusal::PastTheEnd);
+            return Err(Refusal::PastTheEnd);
         }
         let x = fields::get_u32(s, at) as usize;
         if count <= x {
-            return ReadNext::Refused(Refusal::WrongNeighbour);
+            return Err(Refusal::WrongNeighbour);
         }
         if x == node {
-            return ReadNext::Refused(Refusal::WrongNeighbour);
+            return Err(Refusal::WrongNeighbour);
         }
         if marks[x] == mark {
-            return ReadNext::Refused(Refusal::WrongNeighbour);
+            return Err(Refusal::WrongNeighbour);
         }
         marks[x] = mark;
         at += 4;
-        i += 1;
     }
-    ReadNext::Next(at)
+    Ok(at)
 }
 
 // 2M at level 0, M above.
+#[tactic(auto, unfolding(crate::specs::Graph::degree_limit))]
 fn degree_limit(m: usize, level: usize) -> usize
     requires { m ≤ max_m }
     ensures { result ≡ degree_limit m level }
@@ -256,6 +209,7 @@ fn degree_limit(m: usize, level: usize) -> usize
     m
 }
 
+#[tactic(auto, unfolding(crate::specs::Cache::read_level, crate::specs::Graph::degree_test))]
 fn check_level(
     s: &[u8],
     end: usize,
@@ -265,17 +219,17 @@ fn check_level(
     level: usize,
     at: usize,
     marks: &mut [u64],
-) -> ReadNext
+) -> Result<usize, Refusal>
     requires { Walks s.now end m count marks.old at }
     ensures value { result ≡ next_told (read_level m count s.now end node level at) }
     ensures under { Under marks.new (at + 5) }
 {
     if end - at < 4 {
-        return ReadNext::Refused(Refusal::PastTheEnd);
+        return Err(Refusal::PastTheEnd);
     }
     let degree = fields::get_u32(s, at) as usize;
     if degree_limit(m, level) < degree {
-        return ReadNext::Refused(Refusal::WrongDegree);
+        return Err(Refusal::WrongDegree);
     }
     check_neighbours(s, end, count, node, degree, at + 4, marks)
 }
@@ -289,27 +243,19 @@ fn check_levels(
     levels: usize,
     first: usize,
     marks: &mut [u64],
-) -> ReadNext
+) -> Result<usize, Refusal>
     requires { Walks s.now end m count marks.old first }
     ensures value { result ≡ next_told (several (read_level m count s.now end node) levels 0 first) }
-    ensures by_index { (next : ℕ) → result ≡ ReadNext.Next next → Under marks.new (next + 1) }
+    ensures by_index { (next : ℕ) → result ≡ Ok next → Under marks.new (next + 1) }
 {
     let mut at = first;
-    let mut level: usize = 0;
-    while level < levels {
-        match check_level(s, end, m, count, node, level, at, marks) {
-            ReadNext::Next(next) => {
-                at = next;
-            }
-            ReadNext::Refused(why) => {
-                return ReadNext::Refused(why);
-            }
-        }
-        level += 1;
+    for level in 0..levels {
+        at = check_level(s, end, m, count, node, level, at, marks)?;
     }
-    ReadNext::Next(at)
+    Ok(at)
 }
 
+#[tactic(auto, using(fields::proofs::Numbers::num_one), unfolding(crate::specs::Cache::read_node, crate::specs::Graph::levels_test))]
 fn check_node(
     s: &[u8],
     end: usize,
@@ -318,17 +264,17 @@ fn check_node(
     node: usize,
     at: usize,
     marks: &mut [u64],
-) -> ReadNext
+) -> Result<usize, Refusal>
     requires { Walks s.now end m count marks.old at }
     ensures value { result ≡ next_told (read_node m count s.now end node at) }
-    ensures by_index { (next : ℕ) → result ≡ ReadNext.Next next → Under marks.new (next + 1) }
+    ensures by_index { (next : ℕ) → result ≡ Ok next → Under marks.new (next + 1) }
 {
     if end - at < 1 {
-        return ReadNext::Refused(Refusal::PastTheEnd);
+        return Err(Refusal::PastTheEnd);
     }
     let levels = wide(s[at]);
     if !config::in_range(levels, MIN_LEVELS, MAX_LEVELS) {
-        return ReadNext::Refused(Refusal::WrongLevels);
+        return Err(Refusal::WrongLevels);
     }
     check_levels(s, end, m, count, node, levels, at + 1, marks)
 }
@@ -340,7 +286,8 @@ fn wide(x: u8) -> usize
 }
 
 // The lent starts bear the marks meanwhile.
-fn check_nodes(s: &[u8], m: usize, count: usize, marks: &mut [u64]) -> ReadNext
+#[tactic(auto, using(crate::proofs::Listing::running_done), unfolding(crate::specs::Cache::read_nodes))]
+fn check_nodes(s: &[u8], m: usize, count: usize, marks: &mut [u64]) -> Result<usize, Refusal>
     requires min_cache_bytes_in_bounds { min_cache_bytes ≤ length s.now }
     requires m_le_max_m { m ≤ max_m }
     requires count_in_bounds { count ≤ length marks.old }
@@ -349,49 +296,38 @@ fn check_nodes(s: &[u8], m: usize, count: usize, marks: &mut [u64]) -> ReadNext
 {
     let end = s.len() - layout::CRC_LENGTH;
     let mut at = FIRST_NODE;
-    let mut node: usize = 0;
-    while node < count {
-        match check_node(s, end, m, count, node, at, marks) {
-            ReadNext::Next(next) => {
-                at = next;
-            }
-            ReadNext::Refused(why) => {
-                return ReadNext::Refused(why);
-            }
-        }
-        node += 1;
+    for node in 0..count {
+        at = check_node(s, end, m, count, node, at, marks)?;
     }
-    ReadNext::Next(at)
+    Ok(at)
 }
 
 // ---- starts
 
 // Internal: the levels lie in the cache. Where the node that begins at `at` ends.
+#[tactic(auto, using(crate::proofs::Walk::links_begin, crate::proofs::Walk::links_on))]
 fn node_end(s: &[u8], at: usize) -> usize
     requires { at + node_length (links_at s.now at) ≤ length s.now }
     ensures { result ≡ at + node_length (links_at s.now at) }
 {
     let levels = wide(s[at]);
     let mut next = at + 1;
-    let mut level: usize = 0;
-    while level < levels {
+    for _ in 0..levels {
         next += 4 + 4 * (fields::get_u32(s, next) as usize);
-        level += 1;
     }
     next
 }
 
+#[tactic(auto, using(crate::proofs::Starts::filling_done))]
 fn fill_starts(s: &[u8], count: usize, starts: &mut [u64])
     requires count_in_bounds { count ≤ length starts.old }
     requires first_node_in_bounds { first_node + graph_length (graph_at count s.now first_node) ≤ length s.now }
     ensures { starts.new ≡ starts_from first_node (graph_at count s.now first_node) ++ drop count starts.old }
 {
     let mut at = FIRST_NODE;
-    let mut i: usize = 0;
-    while i < count {
+    for i in 0..count {
         starts[i] = at as u64;
         at = node_end(s, at);
-        i += 1;
     }
 }
 
@@ -406,22 +342,19 @@ fn zeros_from(words: &mut [u64], at: usize)
 // ---- 49, 50
 
 // Internal: the neighbours lie in the cache, and each has a start that lies there. Whether one of them lacks the level.
+#[tactic(auto, using(crate::proofs::Decode::length_numbers, crate::proofs::Walk::walking_over))]
 fn lost_at(s: &[u8], starts: &[u64], level: usize, degree: usize, first: usize) -> bool
     requires degree_in_bounds { first + 4 * degree ≤ length s.now }
     requires by_index { (i : ℕ) → get_or (numbers_at degree s.now first) i 0 < length starts.now }
     requires by_index_2 { (x : ℕ) → get_or starts.now x 0 < length s.now }
     ensures { result ≡ lost_at (height_at s.now starts.now) level (numbers_at degree s.now first) }
 {
-    let mut at = first;
-    let mut i: usize = 0;
-    while i < degree {
-        let x = fields::get_u32(s, at) as usize;
+    for i in 0..degree {
+        let x = fields::get_u32(s, first + 4 * i) as usize;
         let start = starts[x] as usize;
         if wide(s[start]) <= level {
             return true;
         }
-        at += 4;
-        i += 1;
     }
     false
 }
@@ -436,75 +369,70 @@ fn lost_above(s: &[u8], starts: &[u64], start: usize) -> bool
 {
     let levels = wide(s[start]);
     let mut at = start + 5 + 4 * (fields::get_u32(s, start + 1) as usize);
-    let mut level: usize = 1;
-    while level < levels {
+    for level in 1..levels {
         let degree = fields::get_u32(s, at) as usize;
         if lost_at(s, starts, level, degree, at + 4) {
             return true;
         }
         at += 4 + 4 * degree;
-        level += 1;
     }
     false
 }
 
 // Internal: the starts are those of a graph that passed 46 to 48.
+#[tactic(auto, using(crate::proofs::Body::laid_lost, crate::proofs::Walk::walking, crate::proofs::Decode::length_graph))]
 fn edge_lost(s: &[u8], starts: &[u64], count: usize) -> bool
     requires { Laid s.now starts.now count }
     ensures { result ≡ edge_lost (height_at s.now starts.now) (graph_at count s.now first_node) }
 {
-    let mut i: usize = 0;
-    while i < count {
-        let start = starts[i] as usize;
-        if lost_above(s, starts, start) {
+    for i in 0..count {
+        if lost_above(s, starts, starts[i] as usize) {
             return true;
         }
-        i += 1;
     }
     false
 }
 
 // Internal: as `edge_lost`. Whether a node has more levels than that.
+#[tactic(auto, using(crate::proofs::Walk::height_is, crate::proofs::Body::laid_height, crate::proofs::Walk::walking, crate::proofs::Decode::length_graph))]
 fn taller(s: &[u8], starts: &[u64], count: usize, height: usize) -> bool
     requires { Laid s.now starts.now count }
     ensures { result ≡ any_of (λ links. ltb height (length links)) (graph_at count s.now first_node) }
 {
-    let mut i: usize = 0;
-    while i < count {
+    for i in 0..count {
         let start = starts[i] as usize;
         if height < wide(s[start]) {
             return true;
         }
-        i += 1;
     }
     false
 }
 
 // 49, 50.
-fn check_links(s: &[u8], starts: &[u64], count: usize, entry: Entry) -> Checked
+#[tactic(auto, using(crate::proofs::Body::laid_edges), unfolding(crate::specs::Graph::linked_test))]
+fn check_links(s: &[u8], starts: &[u64], count: usize, entry: Option<Node>) -> Result<(), Refusal>
     requires laid { Laid s.now starts.now count }
     requires entry_in { EntryIn count entry }
-    ensures { result ≡ checked (linked_test entry (graph_at count s.now first_node)) }
+    ensures { result ≡ linked_test entry (graph_at count s.now first_node) }
 {
     if edge_lost(s, starts, count) {
-        return Checked::Refused(Refusal::EdgeToMissingLevel);
+        return Err(Refusal::EdgeToMissingLevel);
     }
-    match entry {
-        Entry::Node(n) => {
-            let start = starts[n.0 as usize] as usize;
-            if taller(s, starts, count, wide(s[start])) {
-                return Checked::Refused(Refusal::EntryBelowHighest);
-            }
-            Checked::Passed
-        }
-        Entry::None => Checked::Passed,
+    let Some(n) = entry else {
+        return Ok(());
+    };
+    let start = starts[n.0 as usize] as usize;
+    if taller(s, starts, count, wide(s[start])) {
+        return Err(Refusal::EntryBelowHighest);
     }
+    Ok(())
 }
 
 // ---- the whole
 
 // Nodes in order, 16, 17.
-fn check_body(s: &[u8], m: usize, count: usize, marks: &mut [u64]) -> Checked
+#[tactic(auto, unfolding(crate::specs::Cache::read_body))]
+fn check_body(s: &[u8], m: usize, count: usize, marks: &mut [u64]) -> Result<(), Refusal>
     requires min_cache_bytes_in_bounds { min_cache_bytes ≤ length s.now }
     requires m_le_max_m { m ≤ max_m }
     requires count_in_bounds { count ≤ length marks.old }
@@ -512,37 +440,34 @@ fn check_body(s: &[u8], m: usize, count: usize, marks: &mut [u64]) -> Checked
     ensures { result ≡ pass_told (read_body m count s.now) }
 {
     let end = s.len() - layout::CRC_LENGTH;
-    let next = match check_nodes(s, m, count, marks) {
-        ReadNext::Next(n) => n,
-        ReadNext::Refused(why) => {
-            return Checked::Refused(why);
-        }
-    };
+    let next = check_nodes(s, m, count, marks)?;
     if next != end {
-        return Checked::Refused(Refusal::BytesLeftOver);
+        return Err(Refusal::BytesLeftOver);
     }
     if crc32::crc32(&s[..end]) != fields::get_u32(s, end) {
-        return Checked::Refused(Refusal::WrongFileCrc);
+        return Err(Refusal::WrongFileCrc);
     }
-    Checked::Passed
+    Ok(())
 }
 
 // All behind the header. While the nodes are tested the starts bear marks.
-fn check_graph(s: &[u8], m: usize, count: usize, entry: Entry, starts: &mut [u64]) -> Checked
+#[tactic(auto, using(crate::proofs::Body::answered, crate::proofs::Body::laid_body, crate::proofs::Starts::then_zeros), unfolding(crate::specs::Cache::read_graph))]
+fn check_graph(
+    s: &[u8],
+    m: usize,
+    count: usize,
+    entry: Option<Node>,
+    starts: &mut [u64],
+) -> Result<(), Refusal>
     requires min_cache_bytes_in_bounds { min_cache_bytes ≤ length s.now }
     requires m_le_max_m { m ≤ max_m }
     requires count_in_bounds { count ≤ length starts.old }
     requires entry_in { EntryIn count entry }
     ensures value { result ≡ pass_told (read_graph m count entry s.now) }
-    ensures starts_after { (g : Graph) → read_graph m count entry s.now ≡ answer g → starts.new ≡ starts_from first_node g ++ replicate (length starts.old - length g) 0 }
+    ensures starts_after { (g : Graph) → read_graph m count entry s.now ≡ Ok g → starts.new ≡ starts_from first_node g ++ replicate (length starts.old - length g) 0 }
 {
     fields::fill_zero64(starts);
-    match check_body(s, m, count, starts) {
-        Checked::Passed => {}
-        Checked::Refused(why) => {
-            return Checked::Refused(why);
-        }
-    }
+    check_body(s, m, count, starts)?;
     fill_starts(s, count, starts);
     zeros_from(starts, count);
     check_links(s, starts, count, entry)
@@ -556,100 +481,99 @@ pub fn read_cache(
     sequence: u64,
     count: usize,
     starts: &mut [u64],
-) -> ReadCache
+) -> Result<CacheInfo, Refusal>
     ensures value { result ≡ cache_told (cache_of config crc sequence count (length starts.old) bytes.now) }
     ensures starts_after { starts.new ≡ starts_after (length starts.old) (cache_of config crc sequence count (length starts.old) bytes.now) }
 {
-    let lent = starts.len();
-    let header = match read_header(bytes, config, crc, sequence, count, lent) {
-        ReadCacheHeader::Read(h) => h,
-        ReadCacheHeader::Refused(why) => {
-            fields::fill_zero64(starts);
-            return ReadCache::Refused(why);
-        }
-    };
-    let m = config.m;
-    let entry = header.entry;
-    match check_graph(bytes, m, count, entry, starts) {
-        Checked::Passed => {
-            let rng_state = header.rng_state;
-            ReadCache::Accepted(CacheInfo {
-                nodes: count,
-                entry,
-                rng_state,
-            })
-        }
-        Checked::Refused(why) => {
-            fields::fill_zero64(starts);
-            ReadCache::Refused(why)
-        }
+    let read = read_whole(bytes, config, crc, sequence, count, starts);
+    if read.is_err() {
+        fields::fill_zero64(starts);
     }
+    read
+}
+
+// As `read_cache`; but where it refuses, the starts bear what the reading left there.
+#[tactic(auto, using(crate::proofs::Head::header_read), unfolding(crate::specs::Cache::read_cache))]
+fn read_whole(
+    bytes: &[u8],
+    config: Config,
+    crc: u32,
+    sequence: u64,
+    count: usize,
+    starts: &mut [u64],
+) -> Result<CacheInfo, Refusal>
+    ensures value { result ≡ cache_told (cache_of config crc sequence count (length starts.old) bytes.now) }
+    ensures starts_after { IsOk result → starts.new ≡ starts_after (length starts.old) (cache_of config crc sequence count (length starts.old) bytes.now) }
+{
+    let header = read_header(bytes, config, crc, sequence, count, starts.len())?;
+    check_graph(bytes, config.m, count, header.entry, starts)?;
+    Ok(CacheInfo {
+        nodes: count,
+        entry: header.entry,
+        rng_state: header.rng_state,
+    })
 }
 
 // ---- one level's neighbours
 
-fn level_part(s: &[u8], at: usize) -> ShownLevel
+#[tactic(auto, unfolding(crate::specs::Neighbours::level_part))]
+fn level_part(s: &[u8], at: usize) -> Result<CachePart, Refusal>
     requires { at ≤ length s.now }
-    ensures { result ≡ shown_told (level_part s.now at) }
+    ensures { result ≡ level_part s.now at }
 {
     if s.len() - at < 4 {
-        return ShownLevel::Refused(Refusal::RowDoesNotFit);
+        return Err(Refusal::RowDoesNotFit);
     }
     let size = 4 * (fields::get_u32(s, at) as usize);
     if s.len() - at - 4 < size {
-        return ShownLevel::Refused(Refusal::RowDoesNotFit);
+        return Err(Refusal::RowDoesNotFit);
     }
-    ShownLevel::Part(at + 4, size)
+    Ok(CachePart { at: at + 4, size })
 }
 
-fn level_above(s: &[u8], level: usize, first: usize) -> ShownLevel
+#[tactic(auto, using(crate::proofs::Shows::above_turn, crate::proofs::Shows::part_inside))]
+fn level_above(s: &[u8], level: usize, first: usize) -> Result<CachePart, Refusal>
     requires { first ≤ length s.now }
-    ensures { result ≡ shown_told (level_above level s.now first) }
+    ensures { result ≡ level_above level s.now first }
 {
     let mut at = first;
-    let mut i: usize = 0;
-    while i < level {
-        match level_part(s, at) {
-            ShownLevel::Part(part, size) => {
-                at = part + size;
-            }
-            ShownLevel::Refused(why) => {
-                return ShownLevel::Refused(why);
-            }
-        }
-        i += 1;
+    for _ in 0..level {
+        let below = level_part(s, at)?;
+        at = below.at + below.size;
     }
     level_part(s, at)
 }
 
 // Where they lie: for a caller that cannot be handed a slice, and for the view below.
+#[tactic(auto, unfolding(crate::specs::Neighbours::neighbours))]
 pub fn neighbours_part(
     cache: &[u8],
     starts: &[u64],
     count: usize,
     node: Node,
     level: usize,
-) -> ShownLevel
-    ensures { result ≡ shown_told (neighbours_of cache.now starts.now count node.0 level) }
+) -> Result<CachePart, Refusal>
+    ensures { result ≡ neighbours_of cache.now starts.now count node.0 level }
 {
     let n = node.0 as usize;
     if count <= n {
-        return ShownLevel::Refused(Refusal::NoSuchNode);
+        return Err(Refusal::NoSuchNode);
     }
     if starts.len() < count {
-        return ShownLevel::Refused(Refusal::NoSuchNode);
+        return Err(Refusal::NoSuchNode);
     }
     let start = starts[n] as usize;
     if cache.len() <= start {
-        return ShownLevel::Refused(Refusal::RowDoesNotFit);
+        return Err(Refusal::RowDoesNotFit);
     }
     if wide(cache[start]) <= level {
-        return ShownLevel::Refused(Refusal::NoSuchNode);
+        return Err(Refusal::NoSuchNode);
     }
     level_above(cache, level, start + 1)
 }
 
 // The neighbours' bytes where they lie, 4 for each; where it refuses, the empty part at the cache's start. `neighbours_number` tells the number.
+#[tactic(auto, using(crate::proofs::Shows::shown_inside))]
 pub fn neighbours<'a>(
     cache: &'a [u8],
     starts: &[u64],
@@ -661,11 +585,11 @@ pub fn neighbours<'a>(
     ensures ref_ptr_value { result.ref_ptr ≡ part_start cache.entry.ref_ptr (part_given (neighbours_of cache.now starts.now count node.0 level)) }
 {
     match neighbours_part(cache, starts, count, node, level) {
-        ShownLevel::Part(at, size) => {
-            let end = at + size;
-            &cache[at..end]
+        Ok(part) => {
+            let end = part.at + part.size;
+            &cache[part.at..end]
         }
-        ShownLevel::Refused(_) => &cache[..0],
+        Err(_) => &cache[..0],
     }
 }
 
@@ -680,7 +604,7 @@ pub fn neighbours_number(
     ensures { result ≡ number_told (neighbours_of cache.now starts.now count node.0 level) }
 {
     match neighbours_part(cache, starts, count, node, level) {
-        ShownLevel::Part(_, _) => 0,
-        ShownLevel::Refused(why) => why.number(),
+        Ok(_) => 0,
+        Err(why) => why.number(),
     }
 }

@@ -1,4 +1,5 @@
 -- Of an accepted cache with the starts that reading left, the view gives at each level of each node the neighbours that were checked, and refuses what is not there.
+use Rattle.std.specs.Prelude.{Ok, Err}
 use Prim.Native.Nat.{ℕ, zero, suc, ◌+◌, ◌*◌, ◌-◌, ◌≤◌, ◌<◌}
 use mathlib.Core.Path.{◌≡◌, sym, ap, subst, ◌∙◌}
 use mathlib.Core.List.{List, [], ◌++◌}
@@ -7,7 +8,6 @@ use borrow.Author.Tests.{le-ltb, lt-leb, le-leb}
 use lib.ListN.{length, get_or, replicate}
 use Rattle.fields.specs.Fields.{num}
 use Rattle.config.specs.declared.Config.{Config}
-use Rattle.refusal.specs.Refusal.{answer, refused}
 use Rattle.refusal.specs.declared.Refusal.TheVariants.{NoSuchNode}
 use Rattle.refusal.proofs.Results.{passed, answer_injective, go_on}
 use Rattle.graph.specs.Graph.{Links, Graph, levels_of, neighbours_of}
@@ -22,7 +22,7 @@ use Rattle.graph.proofs.Decode.{length_numbers}
 use Rattle.graph.proofs.Head.{header_read}
 use Rattle.graph.proofs.Body.{body_read, graph_read, laid_body, laid_height, cache_sound}
 
-level_fits : (s : List ℕ) (at : ℕ) → at + 4 + 4 * num s at 4 ≤ length s → level_part s at ≡ answer (record { at = at + 4; size = 4 * num s at 4 })
+level_fits : (s : List ℕ) (at : ℕ) → at + 4 + 4 * num s at 4 ≤ length s → level_part s at ≡ Ok (record { at = at + 4; size = 4 * num s at 4 })
 unfolding level_part
 level_fits s at h = let r : at + 4 ≤ length s = omega arith in simp (le-ltb _ _ r, le-ltb _ _ h)
 
@@ -69,22 +69,22 @@ laid_shows s starts count laid node level h k =
     }
 
 laid_refuses : (s starts : List ℕ) (count : ℕ) → Laid s starts count → (node level : ℕ) → node < count → levels_of (graph_at count s first_node) node ≤ level
-    → neighbours s starts count node level ≡ refused NoSuchNode
+    → neighbours s starts count node level ≡ Err NoSuchNode
 unfolding neighbours
 laid_refuses s starts count laid node level h k =
     let high : height_at s starts node ≤ level = subst (λ (n : ℕ). n ≤ level) (sym (laid_height s starts count laid node h)) k in
     simp (lt-leb _ _ h, le-ltb _ _ laid.lent, lt-leb _ _ (laid.inside node), le-leb _ _ high)
 
-module _ (c : Config) (crc sequence count lent : ℕ) (s : List ℕ) (x : Cache) (accepted : read_cache c crc sequence count lent s ≡ answer x) where
+module _ (c : Config) (crc sequence count lent : ℕ) (s : List ℕ) (x : Cache) (accepted : read_cache c crc sequence count lent s ≡ Ok x) where
   record Known : Type 0 where
     graph_is : x.graph ≡ graph_at count s first_node
-    laid : Laid s (starts_after lent (answer x)) count
+    laid : Laid s (starts_after lent (Ok x)) count
 
   known : Known
   unfolding read_cache
   known =
       let top = passed (read_header c crc sequence count lent s) _ x accepted in
-      let rest = passed (read_graph c.m count top.value.entry s) (λ g. answer (record { header = top.value; graph = g })) x top.then in
+      let rest = passed (read_graph c.m count top.value.entry s) (λ g. Ok (record { header = top.value; graph = g })) x top.then in
       let i : record { header = top.value; graph = rest.value } ≡ x = answer_injective _ x rest.then in
       let j : rest.value ≡ x.graph = ap (λ (y : Cache). y.graph) i in
       let r = graph_read c.m count top.value.entry s rest.value rest.first in
@@ -96,18 +96,18 @@ module _ (c : Config) (crc sequence count lent : ℕ) (s : List ℕ) (x : Cache)
 
   -- each level of each node: the neighbours that were checked
   pub shows_what_was_checked : (node level : ℕ) → node < count → level < levels_of x.graph node
-      → Shows s (neighbours s (starts_after lent (answer x)) count node level) (neighbours_of x.graph node level)
+      → Shows s (neighbours s (starts_after lent (Ok x)) count node level) (neighbours_of x.graph node level)
   shows_what_was_checked node level h k =
       let n = known in
-      subst (λ (g : Graph). Shows s (neighbours s (starts_after lent (answer x)) count node level) (neighbours_of g node level)) (sym n.graph_is)
-      (laid_shows s (starts_after lent (answer x)) count n.laid node level h (subst (λ (g : Graph). level < levels_of g node) n.graph_is k))
+      subst (λ (g : Graph). Shows s (neighbours s (starts_after lent (Ok x)) count node level) (neighbours_of g node level)) (sym n.graph_is)
+      (laid_shows s (starts_after lent (Ok x)) count n.laid node level h (subst (λ (g : Graph). level < levels_of g node) n.graph_is k))
 
   -- a level that a node lacks: 30
   pub refuses_what_is_not_there : (node level : ℕ) → node < count → levels_of x.graph node ≤ level
-      → neighbours s (starts_after lent (answer x)) count node level ≡ refused NoSuchNode
+      → neighbours s (starts_after lent (Ok x)) count node level ≡ Err NoSuchNode
   refuses_what_is_not_there node level h k =
       let n = known in
-      laid_refuses s (starts_after lent (answer x)) count n.laid node level h (subst (λ (g : Graph). levels_of g node ≤ level) n.graph_is k)
+      laid_refuses s (starts_after lent (Ok x)) count n.laid node level h (subst (λ (g : Graph). levels_of g node ≤ level) n.graph_is k)
 
   -- and what was checked is sound: in range, another node, once, at a level that it has; the entry is at the highest level
   pub accepted_is_sound : Sound c.m count x.header.entry x.graph

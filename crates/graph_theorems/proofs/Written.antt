@@ -1,4 +1,5 @@
 -- An accepted cache is the layout of the graph that is read from it, byte for byte.
+use Rattle.std.specs.Prelude.{Option, Some, None, Ok}
 use Prim.Native.Nat.{ℕ, ◌+◌, ◌-◌}
 use mathlib.Core.Path.{◌≡◌, refl, sym, ap, ap₂, subst, ◌∙◌}
 use mathlib.Core.Bool.{Bool, true, false, not, cond}
@@ -14,35 +15,33 @@ use Rattle.crc32.specs.Crc.{crc_of}
 use Rattle.layout.specs.Layout.{crc_length}
 use Rattle.config.specs.Settings.{validate}
 use Rattle.config.specs.declared.Config.{Config}
-use Rattle.refusal.specs.Refusal.{answer, ◌>>=◌, refuse}
+use Rattle.refusal.specs.Refusal.{◌>>=◌, refuse}
 use Rattle.refusal.specs.declared.Refusal.TheVariants.{BytesLeftOver, WrongFileCrc, WrongEntry, MissingEntry}
 use Rattle.refusal.proofs.Results.{went, passed, answer_injective, refused_no_answer}
 use Rattle.graph.specs.Graph.{Graph, no_entry, entry_of}
 use Rattle.graph.specs.Layout.{cache_magic, version, entry_place, rng_place, first_node, graph_bytes, graph_length, entry_number, header_bytes, body_bytes, cache_bytes}
 use Rattle.graph.specs.Cache.{Cache, head_test, room_test, read_header, read_nodes, read_body, read_graph, read_cache}
-use Rattle.graph.specs.declared.Entry.{Entry}
-use Rattle.graph.specs.declared.Entry.TheVariants as Entries
+use Rattle.rows.specs.declared.Node.{Node}
 use Rattle.graph.specs.declared.CacheHeader.{CacheHeader}
-use Rattle.graph.proofs.Several.{did_pass}
 use Rattle.graph.proofs.Head.{HeadPassed, head_passed}
 use Rattle.graph.proofs.Body.{body_read, graph_read}
 use Rattle.graph_theorems.proofs.Laid.{graph_laid}
 
 -- an entry that was read is written as it stood
-entry_back : (count n : ℕ) (entry : Entry) → entry_of count n ≡ answer entry → entry_number entry ≡ n
+entry_back : (count n : ℕ) (entry : Option Node) → entry_of count n ≡ Ok entry → entry_number entry ≡ n
 unfolding entry_of
 entry_back count n entry e = go (eqb n no_entry) refl e
   where
-    none : (u : Bool) → eqb n no_entry ≡ true → (refuse MissingEntry u >>= λ _. answer Entries.None) ≡ answer entry → entry_number entry ≡ n
+    none : (u : Bool) → eqb n no_entry ≡ true → (refuse MissingEntry u >>= λ _. Ok None) ≡ Ok entry → entry_number entry ≡ n
     none true q e = absurd (refused_no_answer MissingEntry entry e)
-    none false q e = sym (ap entry_number (answer_injective Entries.None entry e)) ∙ sym (eqb-true _ _ q)
+    none false q e = sym (ap entry_number (answer_injective None entry e)) ∙ sym (eqb-true _ _ q)
 
-    some : (u : Bool) → (refuse WrongEntry u >>= λ _. answer (Entries.Node (record { 0 = n }))) ≡ answer entry → entry_number entry ≡ n
+    some : (u : Bool) → (refuse WrongEntry u >>= λ _. Ok (Some (record { 0 = n }))) ≡ Ok entry → entry_number entry ≡ n
     some true e = absurd (refused_no_answer WrongEntry entry e)
-    some false e = sym (ap entry_number (answer_injective (Entries.Node (record { 0 = n })) entry e))
+    some false e = sym (ap entry_number (answer_injective (Some (record { 0 = n })) entry e))
 
     go : (t : Bool) → eqb n no_entry ≡ t
-        → cond t (refuse MissingEntry (ltb 0 count) >>= λ _. answer Entries.None) (refuse WrongEntry (leb count n) >>= λ _. answer (Entries.Node (record { 0 = n }))) ≡ answer entry
+        → cond t (refuse MissingEntry (ltb 0 count) >>= λ _. Ok None) (refuse WrongEntry (leb count n) >>= λ _. Ok (Some (record { 0 = n }))) ≡ Ok entry
         → entry_number entry ≡ n
     go true q e = none (ltb 0 count) q e
     go false q e = some (leb count n) e
@@ -70,7 +69,7 @@ header_laid s b crc sequence count entry rng f e r =
     let a5 : cache_magic ++ bytes 4 version ++ bytes 4 crc ++ bytes 8 sequence ++ bytes 8 count ++ bytes 8 entry ≡ part s 0 40 = ap₂ ◌++◌ a4 t ∙ sym (part_split s 0 32 8) in
     ap₂ ◌++◌ a5 g ∙ sym (part_split s 0 40 8)
 
-crc_of_body : (m count : ℕ) (s : List ℕ) (g : Graph) → read_body m count s ≡ answer g → num s (length s - crc_length) 4 ≡ crc_of (part s 0 (length s - crc_length))
+crc_of_body : (m count : ℕ) (s : List ℕ) (g : Graph) → read_body m count s ≡ Ok g → num s (length s - crc_length) 4 ≡ crc_of (part s 0 (length s - crc_length))
 unfolding read_body
 crc_of_body m count s g e =
     let a = passed (read_nodes m count s) _ g e in
@@ -78,12 +77,12 @@ crc_of_body m count s g e =
     let c = went WrongFileCrc (not (eqb (crc_of (part s 0 (length s - crc_length))) (num s (length s - crc_length) 4))) _ g b.then in
     sym (eqb-true _ _ (not-false _ c.test_false))
 
-pub cache_is_its_layout : (c : Config) (crc sequence count lent : ℕ) (s : List ℕ) → Bytes s → (x : Cache) → read_cache c crc sequence count lent s ≡ answer x
+pub cache_is_its_layout : (c : Config) (crc sequence count lent : ℕ) (s : List ℕ) → Bytes s → (x : Cache) → read_cache c crc sequence count lent s ≡ Ok x
     → s ≡ cache_bytes crc sequence x.header.rng_state x.header.entry x.graph
 unfolding read_cache read_header
 cache_is_its_layout c crc sequence count lent s b x e =
     let top = passed (read_header c crc sequence count lent s) _ x e in
-    let rest = passed (read_graph c.m count top.value.entry s) (λ g. answer (record { header = top.value; graph = g })) x top.then in
+    let rest = passed (read_graph c.m count top.value.entry s) (λ g. Ok (record { header = top.value; graph = g })) x top.then in
     let i : record { header = top.value; graph = rest.value } ≡ x = answer_injective _ x rest.then in
     let h = top.value in
     let g = rest.value in
@@ -92,7 +91,7 @@ cache_is_its_layout c crc sequence count lent s b x e =
     let en = passed (entry_of count (num s entry_place 8)) _ h hd.then in
     let rm = passed (room_test c.seed count lent s) _ h en.then in
     let j : record { entry = en.value; rng_state = num s rng_place 8 } ≡ h = answer_injective _ h rm.then in
-    let f = head_passed crc sequence count s (did_pass _ hd.value hd.first) in
+    let f = head_passed crc sequence count s hd.first in
     let long = f.long in
     let entry : entry_number h.entry ≡ num s entry_place 8 = sym (ap (λ (y : CacheHeader). entry_number y.entry) j) ∙ entry_back count (num s entry_place 8) en.value en.first in
     let rng : h.rng_state ≡ num s rng_place 8 = sym (ap (λ (y : CacheHeader). y.rng_state) j) in

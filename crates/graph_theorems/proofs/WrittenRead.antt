@@ -1,4 +1,5 @@
 -- A cache that is written is read: the layout of a graph that is accepted by value is an accepted cache, with the same entry, RNG state, levels and neighbours.
+use Rattle.std.specs.Prelude.{Option, Some, None, Ok}
 use Prim.Native.Nat.{ℕ, suc, ◌+◌, ◌*◌, ◌-◌, ◌/◌, ◌^◌, ◌≤◌, ◌<◌}
 use mathlib.Core.Path.{◌≡◌, refl, sym, ap, ap₂, subst, ◌∙◌}
 use mathlib.Core.List.{List, [], ◌∷◌, ◌++◌, append-nil}
@@ -17,16 +18,14 @@ use Rattle.layout.specs.Layout.{crc_length}
 use Rattle.config.specs.Limits.{max_records, max_m}
 use Rattle.config.specs.declared.Config.{Config}
 use Rattle.config.proofs.Laws.{bounded_of_valid}
-use Rattle.refusal.specs.Refusal.{answer, passes}
+use Rattle.refusal.specs.Refusal.{passes}
 use Rattle.refusal.proofs.Results.{passed}
 use Rattle.graph.specs.Graph.{Graph, Links, nodes_test, linked_test, graph_test, entry_of}
 use Rattle.graph.specs.Layout.{cache_magic, cache_magic_number, version, version_place, snapshot_crc_place, sequence_place, nodes_place, entry_place, rng_place, first_node, node_bytes, graph_bytes, links_length, node_length, graph_length, entry_number, header_bytes, body_bytes, cache_bytes}
-use Rattle.graph.specs.Cache.{several, read_node, head_test, room_test, read_header, read_nodes, read_body, read_graph, read_cache}
+use Rattle.graph.specs.Cache.{several, read_node, room_test, read_header, read_nodes, read_body, read_graph, read_cache}
 use Rattle.graph.specs.Decoded.{EntryIn}
-use Rattle.graph.specs.declared.Entry.{Entry}
-use Rattle.graph.specs.declared.Entry.TheVariants as Entries
-use Rattle.graph.proofs.Several.{did_pass}
-use Rattle.graph.proofs.Head.{magic_is, check_passed, entry_in, head_good, header_good}
+use Rattle.rows.specs.declared.Node.{Node}
+use Rattle.graph.proofs.Head.{magic_is, entry_in, head_good, header_good}
 use Rattle.graph.proofs.Body.{body_good, cache_good}
 use Rattle.graph.proofs.Tested.{levels_bounds}
 use Rattle.graph_theorems.specs.CacheReadBack.{Writable}
@@ -39,9 +38,9 @@ rng_fits seed count = mod-lt (seed + count * 0x9e3779b97f4a7c15) (zero-lt-suc 18
 eight : 256 ^ 8 ≡ 18446744073709551616
 eight = refl
 
-entry_fits : (count : ℕ) (entry : Entry) → count ≤ max_records → EntryIn count entry → entry_number entry < 256 ^ 8
-entry_fits count (Entries.Node n) h k = omega (arith, eight)
-entry_fits count Entries.None h k = lit< tt
+entry_fits : (count : ℕ) (entry : Option Node) → count ≤ max_records → EntryIn count entry → entry_number entry < 256 ^ 8
+entry_fits count (Some n) h k = omega (arith, eight)
+entry_fits count None h k = lit< tt
 
 -- every node takes five bytes at least
 fives : (xs : Graph) → ((j : ℕ) → j < length xs → 1 ≤ length (get_or xs j [])) → 5 * length xs ≤ graph_length xs
@@ -125,18 +124,18 @@ unfolding room_test
 room_back seed count lent s r b e = simp (eq-eqb _ _ r, le-ltb _ _ b, le-ltb _ _ e)
 
 nodes_back : (m count : ℕ) (s : List ℕ) (g : Graph) → m ≤ max_m → count ≤ max_records → length g ≡ count → nodes_test m count g ≡ passes → Here s first_node (graph_bytes g)
-    → first_node + graph_length g ≤ length s - crc_length → read_nodes m count s ≡ answer (record { value = g; next = first_node + graph_length g })
+    → first_node + graph_length g ≤ length s - crc_length → read_nodes m count s ≡ Ok (record { value = g; next = first_node + graph_length g })
 unfolding read_nodes
 nodes_back m count s g few fits sized t h r =
     ap (λ (n : ℕ). several (read_node m count s (length s - crc_length)) n 0 first_node) (sym sized) ∙ graph_back m count few fits s (length s - crc_length) first_node g t h r
 
-graph_good : (m count : ℕ) (entry : Entry) (s : List ℕ) (g : Graph) → read_body m count s ≡ answer g → linked_test entry g ≡ passes → read_graph m count entry s ≡ answer g
+graph_good : (m count : ℕ) (entry : Option Node) (s : List ℕ) (g : Graph) → read_body m count s ≡ Ok g → linked_test entry g ≡ passes → read_graph m count entry s ≡ Ok g
 unfolding read_graph
 graph_good m count entry s g b l = simp (b, l)
 
-pub written_is_read : (c : Config) (crc sequence count lent : ℕ) (entry : Entry) (g : Graph) → Writable c crc sequence count lent entry g
+pub written_is_read : (c : Config) (crc sequence count lent : ℕ) (entry : Option Node) (g : Graph) → Writable c crc sequence count lent entry g
     → read_cache c crc sequence count lent (cache_bytes crc sequence (rng_state c.seed count) entry g)
-    ≡ answer (record { header = record { entry = entry; rng_state = rng_state c.seed count }; graph = g })
+    ≡ Ok (record { header = record { entry = entry; rng_state = rng_state c.seed count }; graph = g })
 unfolding graph_test
 written_is_read c crc sequence count lent entry g w =
     let rng = rng_state c.seed count in
@@ -146,7 +145,7 @@ written_is_read c crc sequence count lent entry g w =
     let bounded = bounded_of_valid c w.settings in
     let few = bounded.m_high in
     let p = passed (nodes_test c.m count g) (λ _. linked_test entry g) tt w.tested in
-    let t = did_pass _ p.value p.first in
+    let t = p.first in
     let counted = w.few in
     let five = fives g (λ j k. (levels_bounds c.m count g w.sized t j (subst (λ (n : ℕ). j < n) w.sized k)).0) in
     let all : Here s 0 (body ++ bytes 4 (crc_of body)) = record { rest = []; is = sym (append-nil s) } in
@@ -160,11 +159,11 @@ written_is_read c crc sequence count lent entry g w =
     let sized = w.sized in
     let short = w.short in
     let f = fields_back crc sequence count number rng s w.crc_fits w.sequence_fits (omega (arith, eight)) (entry_fits count entry counted (entry_in count number entry w.entered)) (rng_fits c.seed count) head in
-    let tops = check_passed (head_test crc sequence count s) (head_good crc sequence count s (omega arith) (omega arith) f.is_magic f.is_version f.is_crc f.is_sequence f.is_count counted) in
-    let entered : entry_of count (num s entry_place 8) ≡ answer entry = ap (entry_of count) f.is_entry ∙ w.entered in
+    let tops = head_good crc sequence count s (omega arith) (omega arith) f.is_magic f.is_version f.is_crc f.is_sequence f.is_count counted in
+    let entered : entry_of count (num s entry_place 8) ≡ Ok entry = ap (entry_of count) f.is_entry ∙ w.entered in
     let room = room_back c.seed count lent s f.is_rng (omega arith) w.enough in
-    let header : read_header c crc sequence count lent s ≡ answer (record { entry = entry; rng_state = rng }) =
-    header_good c crc sequence count lent s w.settings tops entry entered room ∙ ap (λ (n : ℕ). answer (record { entry = entry; rng_state = n })) f.is_rng in
+    let header : read_header c crc sequence count lent s ≡ Ok (record { entry = entry; rng_state = rng }) =
+    header_good c crc sequence count lent s w.settings tops entry entered room ∙ ap (λ (n : ℕ). Ok (record { entry = entry; rng_state = n })) f.is_rng in
     let nodes = nodes_back c.m count s g few counted sized t graph (omega arith) in
     let end : length s - crc_length ≡ length body = omega arith in
     let at : 0 + length body ≡ length s - crc_length = omega arith in

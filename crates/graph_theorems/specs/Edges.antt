@@ -1,13 +1,11 @@
 -- P10 of document 01, and an accepted cache beside it: each computed on bytes. Snapshot CRC 7, sequence 5, one record, the settings of `Config::new 1`.
-use Rattle.std.specs.Prelude.{ℕ, ◌≡◌, List, [], ◌∷◌}
+use Rattle.std.specs.Prelude.{ℕ, ◌≡◌, List, [], ◌∷◌, Some, Ok, Err}
 use Rattle.rng.specs.Rng.{rng_state}
 use Rattle.config.specs.Settings.{defaults}
-use Rattle.refusal.specs.Refusal.{answer, refused}
 use Rattle.refusal.specs.declared.Refusal.TheVariants.{WrongLevels}
 use Rattle.graph.specs.Layout.{cache_bytes}
 use Rattle.graph.specs.Cache.{Cache, read_cache}
 use Rattle.graph.specs.Told.{starts_after}
-use Rattle.graph.specs.declared.Entry.TheVariants as Entries
 
 -- one node of one level without neighbours, and the same file with 0 and with 34 for its levels
 abbrev pub one_level : List ℕ
@@ -21,11 +19,11 @@ many_levels = 86 ∷ 69 ∷ 67 ∷ 71 ∷ 82 ∷ 65 ∷ 80 ∷ 72 ∷ 1 ∷ 0 �
 
 -- what `one_level` is read as
 abbrev pub one_node : Cache
-one_node = record { header = record { entry = Entries.Node (record { 0 = 0 }); rng_state = rng_state 42 1 }; graph = ([] ∷ []) ∷ [] }
+one_node = record { header = record { entry = Some (record { 0 = 0 }); rng_state = rng_state 42 1 }; graph = ([] ∷ []) ∷ [] }
 
 pub record CacheEdges : Type 0 where
-  pub P10-no-levels : read_cache (defaults 1) 7 5 1 1 no_levels ≡ refused WrongLevels
-  pub P10-34-levels : read_cache (defaults 1) 7 5 1 1 many_levels ≡ refused WrongLevels
-  pub one_level_accepted : read_cache (defaults 1) 7 5 1 1 one_level ≡ answer one_node
-  pub one_level_starts : starts_after 3 (answer one_node) ≡ 48 ∷ 0 ∷ 0 ∷ []
-  pub one_level_written : cache_bytes 7 5 (rng_state 42 1) (Entries.Node (record { 0 = 0 })) (([] ∷ []) ∷ []) ≡ one_level
+  pub P10-no-levels : read_cache (defaults 1) 7 5 1 1 no_levels ≡ Err WrongLevels
+  pub P10-34-levels : read_cache (defaults 1) 7 5 1 1 many_levels ≡ Err WrongLevels
+  pub one_level_accepted : read_cache (defaults 1) 7 5 1 1 one_level ≡ Ok one_node
+  pub one_level_starts : starts_after 3 (Ok one_node) ≡ 48 ∷ 0 ∷ 0 ∷ []
+  pub one_level_written : cache_bytes 7 5 (rng_state 42 1) (Some (record { 0 = 0 })) (([] ∷ []) ∷ []) ≡ one_level

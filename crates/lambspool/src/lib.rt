@@ -13,39 +13,38 @@ ghost use Rattle.sources.specs.declared.Shown.TheVariants.{Caption, Vector};
 ghost use Rattle.meaning.specs.Calls.{read_call, read_tables, recover_call, recover_tables, first_operation, output_after};
 ghost use Rattle.meaning.specs.Views.{lookup as lookup_of, view as view_of};
 ghost use Rattle.graph.specs.Neighbours.{neighbours as neighbours_of};
-ghost use Rattle.graph.specs.Told.{cache_told, starts_after, shown_told};
+ghost use Rattle.graph.specs.Told.{cache_told, starts_after};
 ghost use Rattle.snapshot.specs.Told.{read_told};
 ghost use Rattle.recovery.specs.Told.{recovery_answer};
 ghost use Rattle.store_log.specs.Told.{frame_told, operation_told};
-ghost use Rattle.views.specs.Told.{found_told, viewed};
+ghost use Rattle.views.specs.Told.{found_told};
 ghost use Rattle.listing_text.specs.Listing.{fitted, first_line_call, node_line_call};
 ghost use Rattle.lambspool.specs.Lines.{heading, refusal_text};
-ghost use Rattle.lambspool.specs.Asked.{settings_of, settings_told, frame_asked, operation_of, operation_asked, cache_asked, write_asked, encode_asked};
-ghost use Rattle.lambspool.specs.Fits.{FrameFits, OperationFits};
-ghost use Rattle.lambspool.specs.Said.{snapshot_said, refused_store, store_said, kind_number, no_frame, frame_said, operation_said, found_said, entry_said, source_number, part_said, cache_said, neighbours_said, bytes_said};
+ghost use Rattle.lambspool.specs.Asked.{settings_of, frame_asked, operation_of, operation_asked, cache_asked, write_asked, encode_asked};
+ghost use Rattle.lambspool.specs.Fits.{FrameFits, ChangeFits, OperationFits};
+ghost use Rattle.lambspool.specs.Said.{snapshot_said, refused_store, store_said, kind_number, no_frame, frame_said, change_said, operation_said, found_said, entry_said, source_number, part_said, cache_said, neighbours_said, bytes_said};
 
-use config::{Config, Metric, ReadMetric};
-use graph::{Entry, ReadCache, ShownLevel};
+use config::{Config, Metric};
+use graph::{CacheInfo, CachePart};
 use layout::{Extent, Shape};
 use listing_text::Heading;
-use recovery::Recovery;
-use refusal::{Checked, Refusal, Written};
+use recovery::{NotRecovered, RecoveryInfo};
+use refusal::Refusal;
 use rows::{Id, Node};
-use snapshot::ReadSnapshot;
+use snapshot::SnapshotInfo;
 use sources::Shown;
-use store_log::{ReadFrame, ReadOperation};
-use views::{Found, Viewed};
-
-// The settings that five numbers stand for.
-#[derive(Clone, Copy)]
-enum ReadSettings {
-    Known(Config),
-    Refused(Refusal),
-}
+use store_log::{Operation as LogOperation, ReadOperation};
 
 // What a caller asks of a writer or an encoder in numbers: d, M, ef, the seed, the metric and the sequence.
 #[derive(Clone, Copy)]
-struct Asked(usize, usize, usize, u64, u32, u64);
+struct Asked {
+    dimensions: usize,
+    m: usize,
+    ef_construction: usize,
+    seed: u64,
+    metric: u32,
+    sequence: u64,
+}
 
 // A snapshot that was read.
 #[repr(C)]
@@ -195,11 +194,11 @@ pub extern "C" fn lambspool_crc32_of(bytes: &[u8]) -> u32
 
 // ---- a snapshot
 
-fn snapshot_said(answer: ReadSnapshot) -> Snapshot
+fn snapshot_said(answer: Result<SnapshotInfo, Refusal>) -> Snapshot
     ensures { result ≡ snapshot_said answer }
 {
     match answer {
-        ReadSnapshot::Accepted(info) => {
+        Ok(info) => {
             let config = info.config;
             let metric = config.metric;
             Snapshot {
@@ -216,7 +215,7 @@ fn snapshot_said(answer: ReadSnapshot) -> Snapshot
                 size: info.size,
             }
         }
-        ReadSnapshot::Refused(why) => Snapshot {
+        Err(why) => Snapshot {
             number: why.number(),
             crc: 0,
             metric: 0,
@@ -271,11 +270,11 @@ fn refused_store(number: u32, source: u32, at: usize) -> Store
     }
 }
 
-fn store_said(answer: Recovery) -> Store
+fn store_said(answer: Result<RecoveryInfo, NotRecovered>) -> Store
     ensures { result ≡ store_said answer }
 {
     match answer {
-        Recovery::Recovered(info) => {
+        Ok(info) => {
             let config = info.config;
             let metric = config.metric;
             Store {
@@ -298,8 +297,8 @@ fn store_said(answer: Recovery) -> Store
                 size: info.size,
             }
         }
-        Recovery::RefusedSnapshot(why) => refused_store(why.number(), 0, 0),
-        Recovery::RefusedLog(why, at) => refused_store(why.number(), 1, at),
+        Err(NotRecovered::Snapshot(why)) => refused_store(why.number(), 0, 0),
+        Err(NotRecovered::Log(why, at)) => refused_store(why.number(), 1, at),
     }
 }
 
@@ -319,19 +318,19 @@ pub extern "C" fn lambspool_recover(
 
 // ---- lookup and views
 
-fn found_said(answer: Found) -> Lookup
+fn found_said(answer: Result<Option<Node>, Refusal>) -> Lookup
     ensures { result ≡ found_said answer }
 {
     match answer {
-        Found::Node(node) => Lookup {
+        Ok(Some(node)) => Lookup {
             number: 0,
             node: node.0,
         },
-        Found::None => Lookup {
+        Ok(None) => Lookup {
             number: 0,
             node: NO_NODE,
         },
-        Found::Refused(why) => Lookup {
+        Err(why) => Lookup {
             number: why.number(),
             node: NO_NODE,
         },
@@ -351,17 +350,17 @@ fn source_number(from_log: bool) -> u32
     if from_log { 1 } else { 0 }
 }
 
-fn part_said(answer: Viewed) -> Part
+fn part_said(answer: Result<sources::Part, Refusal>) -> Part
     ensures { result ≡ part_said answer }
 {
     match answer {
-        Viewed::Part(part) => Part {
+        Ok(part) => Part {
             number: 0,
             source: source_number(part.from_log),
             at: part.at,
             length: part.count,
         },
-        Viewed::Refused(why) => Part {
+        Err(why) => Part {
             number: why.number(),
             source: 0,
             at: 0,
@@ -379,7 +378,7 @@ pub extern "C" fn lambspool_caption(
     node: u32,
     d: usize,
 ) -> Part
-    ensures { result ≡ part_said (viewed (view_of Caption d rows.now count node snapshot.now log.now)) }
+    ensures { result ≡ part_said ((view_of Caption d rows.now count node snapshot.now log.now)) }
 {
     part_said(views::view(Shown::Caption, snapshot, log, rows, count, Node(node), d))
 }
@@ -393,26 +392,24 @@ pub extern "C" fn lambspool_vector(
     node: u32,
     d: usize,
 ) -> Part
-    ensures { result ≡ part_said (viewed (view_of Vector d rows.now count node snapshot.now log.now)) }
+    ensures { result ≡ part_said ((view_of Vector d rows.now count node snapshot.now log.now)) }
 {
     part_said(views::view(Shown::Vector, snapshot, log, rows, count, Node(node), d))
 }
 
 // ---- settings
 
-fn settings(d: usize, m: usize, ef: usize, seed: u64, metric: u32) -> ReadSettings
-    ensures { result ≡ settings_told (settings_of d m ef seed metric) }
+fn settings(d: usize, m: usize, ef: usize, seed: u64, metric: u32) -> Result<Config, Refusal>
+    ensures { result ≡ settings_of d m ef seed metric }
 {
-    match Metric::from_u32(metric) {
-        ReadMetric::Known(known) => ReadSettings::Known(Config {
-            dimensions: d,
-            m,
-            ef_construction: ef,
-            seed,
-            metric: known,
-        }),
-        ReadMetric::Refused(why) => ReadSettings::Refused(why),
-    }
+    let known = Metric::from_u32(metric)?;
+    Ok(Config {
+        dimensions: d,
+        m,
+        ef_construction: ef,
+        seed,
+        metric: known,
+    })
 }
 
 // ---- a log, frame by frame
@@ -455,13 +452,13 @@ fn first_operation(frame: store_log::Frame) -> usize
     }
 }
 
-fn frame_said(answer: ReadFrame) -> Frame
+fn frame_said(answer: Result<Option<store_log::Frame>, Refusal>) -> Frame
     requires { FrameFits answer }
     ensures { result ≡ frame_said answer }
 {
     match answer {
-        ReadFrame::TooLittle => no_frame(0),
-        ReadFrame::Whole(frame) => {
+        Ok(None) => no_frame(0),
+        Ok(Some(frame)) => {
             let shape = frame.shape;
             Frame {
                 number: 0,
@@ -474,7 +471,7 @@ fn frame_said(answer: ReadFrame) -> Frame
                 next: frame.next,
             }
         }
-        ReadFrame::Refused(why) => no_frame(why.number()),
+        Err(why) => no_frame(why.number()),
     }
 }
 
@@ -492,39 +489,44 @@ pub extern "C" fn lambspool_frame_at(
     ensures { result ≡ frame_said (frame_told (frame_asked d m ef seed metric log.now previous at)) }
 {
     match settings(d, m, ef, seed, metric) {
-        ReadSettings::Known(config) => frame_said(store_log::frame_at(config, log, previous, at)),
-        ReadSettings::Refused(why) => frame_said(ReadFrame::Refused(why)),
+        Ok(config) => frame_said(store_log::frame_at(config, log, previous, at)),
+        Err(why) => frame_said(Err(why)),
     }
 }
 
-fn operation_said(d: usize, answer: ReadOperation) -> Operation
-    requires { OperationFits d answer }
-    ensures { result ≡ operation_said d answer }
+fn change_said(d: usize, read: ReadOperation) -> Operation
+    requires { ChangeFits d read.operation read.next }
+    ensures { result ≡ change_said d read.operation read.next }
 {
-    match answer {
-        ReadOperation::Put(row, next) => {
-            let id = row.id;
-            let vector = row.at;
-            Operation {
-                number: 0,
-                tag: 1,
-                id: id.0,
-                vector,
-                caption: vector + layout::caption_offset(d),
-                caption_length: row.caption_length,
-                next,
-            }
-        }
-        ReadOperation::Remove(id, next) => Operation {
+    match read.operation {
+        LogOperation::Put(row) => Operation {
+            number: 0,
+            tag: 1,
+            id: row.id.0,
+            vector: row.at,
+            caption: row.at + layout::caption_offset(d),
+            caption_length: row.caption_length,
+            next: read.next,
+        },
+        LogOperation::Remove(id) => Operation {
             number: 0,
             tag: 2,
             id: id.0,
             vector: 0,
             caption: 0,
             caption_length: 0,
-            next,
+            next: read.next,
         },
-        ReadOperation::Refused(why) => Operation {
+    }
+}
+
+fn operation_said(d: usize, answer: Result<ReadOperation, Refusal>) -> Operation
+    requires { OperationFits d answer }
+    ensures { result ≡ operation_said d answer }
+{
+    match answer {
+        Ok(read) => change_said(d, read),
+        Err(why) => Operation {
             number: why.number(),
             tag: 0,
             id: 0,
@@ -537,7 +539,13 @@ fn operation_said(d: usize, answer: ReadOperation) -> Operation
 }
 
 // A kind that is none is refused behind the settings.
-fn operation_of(config: Config, log: &[u8], kind: u32, end: usize, at: usize) -> ReadOperation
+fn operation_of(
+    config: Config,
+    log: &[u8],
+    kind: u32,
+    end: usize,
+    at: usize,
+) -> Result<ReadOperation, Refusal>
     ensures { result ≡ operation_told (operation_of config log.now kind end at) }
 {
     if kind == 1 {
@@ -546,10 +554,8 @@ fn operation_of(config: Config, log: &[u8], kind: u32, end: usize, at: usize) ->
     if kind == 2 {
         return store_log::operation_at(config, log, Shape::Batch, end, at);
     }
-    match config.validate() {
-        Checked::Passed => ReadOperation::Refused(Refusal::RequestMalformed),
-        Checked::Refused(why) => ReadOperation::Refused(why),
-    }
+    config.validate()?;
+    Err(Refusal::RequestMalformed)
 }
 
 #[unsafe(no_mangle)]
@@ -567,27 +573,27 @@ pub extern "C" fn lambspool_operation_at(
     ensures { result ≡ operation_said d (operation_told (operation_asked d m ef seed metric log.now kind end at)) }
 {
     match settings(d, m, ef, seed, metric) {
-        ReadSettings::Known(config) => operation_said(d, operation_of(config, log, kind, end, at)),
-        ReadSettings::Refused(why) => operation_said(d, ReadOperation::Refused(why)),
+        Ok(config) => operation_said(d, operation_of(config, log, kind, end, at)),
+        Err(why) => operation_said(d, Err(why)),
     }
 }
 
 // ---- the graph cache
 
-fn entry_said(entry: Entry) -> u32
+fn entry_said(entry: Option<Node>) -> u32
     ensures { result ≡ entry_said entry }
 {
     match entry {
-        Entry::Node(node) => node.0,
-        Entry::None => NO_NODE,
+        Some(node) => node.0,
+        None => NO_NODE,
     }
 }
 
-fn cache_said(answer: ReadCache) -> Cache
+fn cache_said(answer: Result<CacheInfo, Refusal>) -> Cache
     ensures { result ≡ cache_said answer }
 {
     match answer {
-        ReadCache::Accepted(info) => {
+        Ok(info) => {
             let entry = info.entry;
             Cache {
                 number: 0,
@@ -596,7 +602,7 @@ fn cache_said(answer: ReadCache) -> Cache
                 rng_state: info.rng_state,
             }
         }
-        ReadCache::Refused(why) => Cache {
+        Err(why) => Cache {
             number: why.number(),
             entry: NO_NODE,
             nodes: 0,
@@ -622,26 +628,24 @@ pub extern "C" fn lambspool_read_cache(
     ensures starts_after { starts.new ≡ starts_after (length starts.old) (cache_asked d m ef seed metric crc sequence count starts.old bytes.now) }
 {
     match settings(d, m, ef, seed, metric) {
-        ReadSettings::Known(config) => {
-            cache_said(graph::read_cache(bytes, config, crc, sequence, count, starts))
-        }
-        ReadSettings::Refused(why) => {
+        Ok(config) => { cache_said(graph::read_cache(bytes, config, crc, sequence, count, starts)) }
+        Err(why) => {
             fields::fill_zero64(starts);
-            cache_said(ReadCache::Refused(why))
+            cache_said(Err(why))
         }
     }
 }
 
-fn neighbours_said(answer: ShownLevel) -> Neighbours
+fn neighbours_said(answer: Result<CachePart, Refusal>) -> Neighbours
     ensures { result ≡ neighbours_said answer }
 {
     match answer {
-        ShownLevel::Part(at, length) => Neighbours {
+        Ok(CachePart { at, size }) => Neighbours {
             number: 0,
             at,
-            length,
+            length: size,
         },
-        ShownLevel::Refused(why) => Neighbours {
+        Err(why) => Neighbours {
             number: why.number(),
             at: 0,
             length: 0,
@@ -657,19 +661,19 @@ pub extern "C" fn lambspool_neighbours(
     node: u32,
     level: usize,
 ) -> Neighbours
-    ensures { result ≡ neighbours_said (shown_told (neighbours_of cache.now starts.now count node level)) }
+    ensures { result ≡ neighbours_said (neighbours_of cache.now starts.now count node level) }
 {
     neighbours_said(graph::neighbours_part(cache, starts, count, Node(node), level))
 }
 
 // ---- writing
 
-fn bytes_said(answer: Written) -> Bytes
+fn bytes_said(answer: Result<usize, Refusal>) -> Bytes
     ensures { result ≡ bytes_said answer }
 {
     match answer {
-        Written::Bytes(length) => Bytes { number: 0, length },
-        Written::Refused(why) => Bytes {
+        Ok(length) => Bytes { number: 0, length },
+        Err(why) => Bytes {
             number: why.number(),
             length: 0,
         },
@@ -685,15 +689,18 @@ fn write_asked<'a>(
     snapshot: &'a [u8],
     log: &'a [u8],
     out: &mut [u8],
-) -> Written
-    ensures value { result ≡ written_told (write_asked extent asked.0 asked.1 asked.2 asked.3 asked.4 asked.5 rows.now count snapshot.now log.now out.old) }
-    ensures out_after { out.new ≡ output_after out.old (write_asked extent asked.0 asked.1 asked.2 asked.3 asked.4 asked.5 rows.now count snapshot.now log.now out.old) }
+) -> Result<usize, Refusal>
+    ensures value { result ≡ written_told (write_asked extent asked.dimensions asked.m asked.ef_construction asked.seed asked.metric asked.sequence rows.now count snapshot.now log.now out.old) }
+    ensures out_after { out.new ≡ output_after out.old (write_asked extent asked.dimensions asked.m asked.ef_construction asked.seed asked.metric asked.sequence rows.now count snapshot.now log.now out.old) }
 {
-    let sequence = asked.5;
-    let config = match settings(asked.0, asked.1, asked.2, asked.3, asked.4) {
-        ReadSettings::Known(config) => config,
-        ReadSettings::Refused(why) => return Written::Refused(why),
-    };
+    let sequence = asked.sequence;
+    let config = settings(
+        asked.dimensions,
+        asked.m,
+        asked.ef_construction,
+        asked.seed,
+        asked.metric,
+    )?;
     match extent {
         Extent::Full => writer::write_snapshot(config, sequence, rows, count, snapshot, log, out),
         Extent::Compacted => {
@@ -710,15 +717,18 @@ fn encode_asked(
     coordinates: &[u32],
     captions: &[u8],
     out: &mut [u8],
-) -> Written
-    ensures value { result ≡ written_told (encode_asked shape asked.0 asked.1 asked.2 asked.3 asked.4 asked.5 operations.now coordinates.now captions.now out.old) }
-    ensures out_after { out.new ≡ output_after out.old (encode_asked shape asked.0 asked.1 asked.2 asked.3 asked.4 asked.5 operations.now coordinates.now captions.now out.old) }
+) -> Result<usize, Refusal>
+    ensures value { result ≡ written_told (encode_asked shape asked.dimensions asked.m asked.ef_construction asked.seed asked.metric asked.sequence operations.now coordinates.now captions.now out.old) }
+    ensures out_after { out.new ≡ output_after out.old (encode_asked shape asked.dimensions asked.m asked.ef_construction asked.seed asked.metric asked.sequence operations.now coordinates.now captions.now out.old) }
 {
-    let sequence = asked.5;
-    let config = match settings(asked.0, asked.1, asked.2, asked.3, asked.4) {
-        ReadSettings::Known(config) => config,
-        ReadSettings::Refused(why) => return Written::Refused(why),
-    };
+    let sequence = asked.sequence;
+    let config = settings(
+        asked.dimensions,
+        asked.m,
+        asked.ef_construction,
+        asked.seed,
+        asked.metric,
+    )?;
     match shape {
         Shape::Single => {
             encoder::encode_frame(config, sequence, operations, coordinates, captions, out)
@@ -746,7 +756,14 @@ pub extern "C" fn lambspool_write_snapshot<'a>(
     ensures value { result ≡ bytes_said (written_told (write_asked Full d m ef seed metric sequence rows.now count snapshot.now log.now out.old)) }
     ensures out_after { out.new ≡ output_after out.old (write_asked Full d m ef seed metric sequence rows.now count snapshot.now log.now out.old) }
 {
-    let asked = Asked(d, m, ef, seed, metric, sequence);
+    let asked = Asked {
+        dimensions: d,
+        m,
+        ef_construction: ef,
+        seed,
+        metric,
+        sequence,
+    };
     bytes_said(write_asked(Extent::Full, asked, rows, count, snapshot, log, out))
 }
 
@@ -767,7 +784,14 @@ pub extern "C" fn lambspool_write_compacted_snapshot<'a>(
     ensures value { result ≡ bytes_said (written_told (write_asked Compacted d m ef seed metric sequence rows.now count snapshot.now log.now out.old)) }
     ensures out_after { out.new ≡ output_after out.old (write_asked Compacted d m ef seed metric sequence rows.now count snapshot.now log.now out.old) }
 {
-    let asked = Asked(d, m, ef, seed, metric, sequence);
+    let asked = Asked {
+        dimensions: d,
+        m,
+        ef_construction: ef,
+        seed,
+        metric,
+        sequence,
+    };
     bytes_said(write_asked(Extent::Compacted, asked, rows, count, snapshot, log, out))
 }
 
@@ -787,7 +811,14 @@ pub extern "C" fn lambspool_encode_frame(
     ensures value { result ≡ bytes_said (written_told (encode_asked Shape.Single d m ef seed metric sequence operations.now coordinates.now captions.now out.old)) }
     ensures out_after { out.new ≡ output_after out.old (encode_asked Shape.Single d m ef seed metric sequence operations.now coordinates.now captions.now out.old) }
 {
-    let asked = Asked(d, m, ef, seed, metric, sequence);
+    let asked = Asked {
+        dimensions: d,
+        m,
+        ef_construction: ef,
+        seed,
+        metric,
+        sequence,
+    };
     bytes_said(encode_asked(Shape::Single, asked, operations, coordinates, captions, out))
 }
 
@@ -807,7 +838,14 @@ pub extern "C" fn lambspool_encode_batch(
     ensures value { result ≡ bytes_said (written_told (encode_asked Shape.Batch d m ef seed metric sequence operations.now coordinates.now captions.now out.old)) }
     ensures out_after { out.new ≡ output_after out.old (encode_asked Shape.Batch d m ef seed metric sequence operations.now coordinates.now captions.now out.old) }
 {
-    let asked = Asked(d, m, ef, seed, metric, sequence);
+    let asked = Asked {
+        dimensions: d,
+        m,
+        ef_construction: ef,
+        seed,
+        metric,
+        sequence,
+    };
     bytes_said(encode_asked(Shape::Batch, asked, operations, coordinates, captions, out))
 }
 

@@ -12,11 +12,11 @@ ghost use Rattle.sources.specs.declared.Shown.TheVariants.{Caption, Vector};
 ghost use Rattle.meaning.specs.Calls.{read_call, read_tables, recover_call, recover_tables, output_after};
 ghost use Rattle.meaning.specs.Views.{lookup as lookup_of, view as view_of};
 ghost use Rattle.graph.specs.Neighbours.{neighbours as neighbours_of};
-ghost use Rattle.graph.specs.Told.{cache_told, starts_after, shown_told};
+ghost use Rattle.graph.specs.Told.{cache_told, starts_after};
 ghost use Rattle.snapshot.specs.Told.{read_told};
 ghost use Rattle.recovery.specs.Told.{recovery_answer};
 ghost use Rattle.store_log.specs.Told.{frame_told, operation_told};
-ghost use Rattle.views.specs.Told.{found_told, viewed};
+ghost use Rattle.views.specs.Told.{found_told};
 ghost use Rattle.listing_text.specs.Listing.{fitted, first_line_call, node_line_call};
 ghost use Rattle.lambspool.specs.Lines.{heading, refusal_text};
 ghost use Rattle.lambspool.specs.Asked.{frame_asked, operation_asked, cache_asked, write_asked, encode_asked};
@@ -97,7 +97,7 @@ pub extern "C" fn lambspool_caption(
     node: u32,
     d: usize,
 ) -> Part
-    ensures { result ≡ part_said (viewed (view_of Caption d rows.now count node snapshot.now log.now)) }
+    ensures { result ≡ part_said ((view_of Caption d rows.now count node snapshot.now log.now)) }
 {
     lambspool::lambspool_caption(snapshot, log, rows, count, node, d)
 }
@@ -111,7 +111,7 @@ pub extern "C" fn lambspool_vector(
     node: u32,
     d: usize,
 ) -> Part
-    ensures { result ≡ part_said (viewed (view_of Vector d rows.now count node snapshot.now log.now)) }
+    ensures { result ≡ part_said ((view_of Vector d rows.now count node snapshot.now log.now)) }
 {
     lambspool::lambspool_vector(snapshot, log, rows, count, node, d)
 }
@@ -176,7 +176,7 @@ pub extern "C" fn lambspool_neighbours(
     node: u32,
     level: usize,
 ) -> Neighbours
-    ensures { result ≡ neighbours_said (shown_told (neighbours_of cache.now starts.now count node level)) }
+    ensures { result ≡ neighbours_said (neighbours_of cache.now starts.now count node level) }
 {
     lambspool::lambspool_neighbours(cache, starts, count, node, level)
 }

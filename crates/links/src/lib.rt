@@ -31,24 +31,28 @@ const SOURCE: u64 = 4_611_686_018_427_387_904;
 pub const DELETED: u64 = 9_223_372_036_854_775_808;
 
 // Internal: nothing is asked. A row word with no link in it.
+#[tactic(auto, unfolding(crate::specs::Links::plain_word))]
 pub fn plain(word: u64) -> u64
     ensures { result ≡ plain_word word }
 {
     word / ABOVE * ABOVE + word % SPARE
 }
 
+#[tactic(auto, unfolding(crate::specs::Links::left_of))]
 fn left_of(word: u64, entry: u32) -> usize
     ensures { (result ≡ left_of word entry) × (result < links) }
 {
     ((word / SPARE % 4) as usize) * LOW_LINKS + ((entry / LINKS) as usize)
 }
 
+#[tactic(auto, unfolding(crate::specs::Links::right_of))]
 fn right_of(entry: u32) -> usize
     ensures { (result ≡ right_of entry) × (result < links) }
 {
     (entry % LINKS) as usize
 }
 
+#[tactic(auto, unfolding(crate::specs::Links::word_with_left))]
 fn word_with_left(word: u64, link: usize) -> u64
     requires { link < links }
     ensures { result ≡ word_with_left word link }
@@ -56,6 +60,7 @@ fn word_with_left(word: u64, link: usize) -> u64
     word / ABOVE * ABOVE + ((link / LOW_LINKS) as u64) * SPARE + word % SPARE
 }
 
+#[tactic(auto, unfolding(crate::specs::Links::entry_with_left))]
 fn entry_with_left(entry: u32, link: usize) -> u32
     requires { link < links }
     ensures { result ≡ entry_with_left entry link }
@@ -63,6 +68,7 @@ fn entry_with_left(entry: u32, link: usize) -> u32
     ((link % LOW_LINKS) as u32) * LINKS + entry % LINKS
 }
 
+#[tactic(auto, unfolding(crate::specs::Links::entry_with_right))]
 fn entry_with_right(entry: u32, link: usize) -> u32
     requires { link < links }
     ensures { result ≡ entry_with_right entry link }
@@ -72,6 +78,7 @@ fn entry_with_right(entry: u32, link: usize) -> u32
 
 // Internal: the cell is not cell 1, and its link has a row and an entry.
 // Both links are read before one is chosen, so that the compiler makes no branch: half of the guesses at it would be wrong.
+#[tactic(auto, unfolding(crate::specs::Links::link_in))]
 pub fn link_at(words: &[u64], entries: &[u32], root: usize, cell: usize) -> usize
     requires fact { cell ≡ 1 → ⊥ }
     requires cell_in_bounds { 2 * (cell / 2) ≤ length words.now }
@@ -123,6 +130,7 @@ pub fn set_link(
 }
 
 // Internal: nothing is asked. The word of a row that is marked deleted: its caption is empty.
+#[tactic(auto, unfolding(crate::specs::Links::deleted_word))]
 pub fn deleted_word(word: u64) -> u64
     ensures { result ≡ deleted_word word }
 {
@@ -130,6 +138,7 @@ pub fn deleted_word(word: u64) -> u64
 }
 
 // Internal: nothing is asked. The caption length in a row word.
+#[tactic(auto, unfolding(crate::specs::Links::caption_length))]
 pub fn caption_length(word: u64) -> usize
     ensures { result ≡ caption_length word }
 {
@@ -138,6 +147,7 @@ pub fn caption_length(word: u64) -> usize
 
 // Internal: as `set_link`, the cell is one of an earlier link, and the new link has a row and an entry.
 // Stores a link in a cell, with two links of its own. The answer is the root's link.
+#[tactic(auto, using(crate::proofs::LinkLaws::attached))]
 pub fn attach(
     words: &mut [u64],
     entries: &mut [u32],

@@ -2,9 +2,8 @@
 use Rattle.std.proofs.Common.{arith, ℕ, ◌+◌, ◌-◌, ◌≡◌, ap₂, subst, List, take, drop}
 use Rattle.rows.specs.Lent.{rows_lent}
 use Rattle.meaning.specs.Calls.{recover_call, recover_tables}
-use Rattle.recovery.specs.Told.{recovery_answer}
+use Rattle.recovery.specs.Told.{recovery_answer, Recovery}
 use Rattle.listing_text.specs.Files.{listing_rows}
-use Rattle.recovery.specs.declared.Recovery.{Recovery}
 use Rattle.listing.specs.declared.Found.{Found}
 use Rattle.listing.specs.Shown.{log_at, file_in, Recovers}
 

@@ -1,13 +1,10 @@
 -- What the program must show before it reads a file and before it shows a line: which file stands where, whose answer it is, and that the
 -- line is what the call for it made.
-use Rattle.std.specs.Prelude.{ℕ, ◌≤◌, ◌≡◌, cond, List, eqb, ltb, length, take, drop}
-use Rattle.refusal.specs.Refusal.{Result, written_told}
-use Rattle.refusal.specs.declared.Written.{Written}
+use Rattle.std.specs.Prelude.{ℕ, ◌≤◌, ◌≡◌, cond, List, eqb, ltb, length, take, drop, Ok, Err}
+use Rattle.refusal.specs.Refusal.{Answer, written_told}
 use Rattle.rows.specs.Lent.{rows_lent, rows_lent_plain}
 use Rattle.meaning.specs.Calls.{recover_call, recover_tables, output_after}
-use Rattle.recovery.specs.Told.{recovery_answer}
-use Rattle.recovery.specs.declared.Recovery.{Recovery}
-use Rattle.recovery.specs.declared.Recovery.TheVariants as Answers
+use Rattle.recovery.specs.Told.{recovery_answer, Recovery}
 use Rattle.listing_text.specs.Lines.{ascii}
 use Rattle.listing_text.specs.Files.{listing_file_limit, listing_rows, longest_line}
 use Rattle.listing.specs.declared.Found.{Found}
@@ -33,7 +30,7 @@ pub record Recovers (snapshot log : List ℕ) (answer : Recovery) (words : List 
   pub words_are : words ≡ (recover_tables rows active (recover_call rows active snapshot log)).rows
 
 -- the call was lent output that every line fits, said this, and left the line so
-pub record Made (call : List ℕ → Result (List ℕ)) (written : Written) (line : List ℕ) : Type 0 where
+pub record Made (call : List ℕ → Answer (List ℕ)) (written : Answer ℕ) (line : List ℕ) : Type 0 where
   pub out : List ℕ
   pub room : longest_line ≤ length out
   pub result_is : written ≡ written_told (call out)
@@ -44,9 +41,8 @@ abbrev pub nodes_listed : ℕ → List ℕ → ℕ
 nodes_listed records words = cond (ltb (rows_lent_plain words) records) 0 records
 
 abbrev pub nodes_of : Recovery → List ℕ → ℕ
-nodes_of (Answers.Recovered i) words = nodes_listed i.records words
-nodes_of (Answers.RefusedSnapshot why) words = 0
-nodes_of (Answers.RefusedLog why at) words = 0
+nodes_of (Ok i) words = nodes_listed i.records words
+nodes_of (Err refused) words = 0
 
 -- the answer of the recovery of these two files was shown, and so many nodes
 pub record Listed (snapshot log : List ℕ) (nodes : ℕ) : Type 0 where

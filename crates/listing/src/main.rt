@@ -7,16 +7,15 @@
 // made it. What a read finds and what a write leaves no contract says.
 #![tactic(auto)]
 
-ghost use Rattle.std.specs.Prelude.{◌≡◌, ◌+◌, ◌*◌, ◌≤◌, length};
-ghost use Rattle.recovery.specs.declared.Recovery.TheVariants.{Recovered};
+ghost use Rattle.std.specs.Prelude.{◌≡◌, ◌+◌, ◌*◌, ◌≤◌, length, IfSome, Ok};
 ghost use Rattle.listing_text.specs.Files.{listing_file_limit, listing_rows, longest_line};
 ghost use Rattle.listing_text.specs.Listing.{refusal_line_call, answer_line_call, node_line_call};
 ghost use Rattle.listing_text.specs.declared.Stopped.TheVariants.{File};
 ghost use Rattle.listing.specs.Shown.{log_at, name_at, file_in, Recovers, Made, nodes_listed, Listed};
 
 use listing_text::Stopped;
-use recovery::{Recovery, RecoveryInfo};
-use refusal::Written;
+use recovery::{NotRecovered, RecoveryInfo};
+use refusal::Refusal;
 use rows::Node;
 use std::fs;
 use std::io::Read;
@@ -24,8 +23,7 @@ use std::rt::Files;
 
 const FILE_LIMIT: usize = 65536;
 
-// A file as it was found: the byte of the room that it stands from on, and its length; more than FILE_LIMIT, if it cannot be opened or
-// read or does not fit.
+// A file as it was found: the byte of the room that it stands from on, and its length.
 #[derive(Clone, Copy)]
 struct Found {
     at: usize,
@@ -57,41 +55,42 @@ fn list(
     // changes without a sign.
     let log = read(rt, "wal.bin", room, FILE_LIMIT);
     let snapshot = read(rt, "snapshot.bin", room, 0);
-    if FILE_LIMIT < snapshot.bytes {
+    let (Some(snapshot), Some(log)) = (snapshot, log) else {
         refuse_file(rt, line);
         return;
-    }
-    if FILE_LIMIT < log.bytes {
-        refuse_file(rt, line);
-        return;
-    }
+    };
     list_store(rt, room, snapshot, log, rows, active, line);
 }
 
-fn read(rt: &impl Files, name: &str, room: &mut [u8], at: usize) -> Found
+// `None` where it cannot be opened or read, or does not fit.
+fn read(rt: &impl Files, name: &str, room: &mut [u8], at: usize) -> Option<Found>
     requires name_value { name.now ≡ name_at at }
     requires listing_file_limit_in_bounds { at + listing_file_limit ≤ length room.old }
-    ensures at_value { result.at ≡ at }
+    ensures at_value { IfSome result (λ found. found.at ≡ at) }
+    ensures bytes_bound { IfSome result (λ found. found.bytes ≤ listing_file_limit) }
     ensures room_len_unchanged { length room.new ≡ length room.old }
 {
-    let bytes = read_to(rt, name, room, at);
-    Found { at, bytes }
+    let bytes = read_to(rt, name, room, at)?;
+    Some(Found { at, bytes })
 }
 
-fn read_to(rt: &impl Files, name: &str, room: &mut [u8], at: usize) -> usize
+fn read_to(rt: &impl Files, name: &str, room: &mut [u8], at: usize) -> Option<usize>
     requires name_value { name.now ≡ name_at at }
     requires listing_file_limit_in_bounds { at + listing_file_limit ≤ length room.old }
-    ensures { length room.new ≡ length room.old }
+    ensures bound { IfSome result (λ n. n ≤ listing_file_limit) }
+    ensures room_len_unchanged { length room.new ≡ length room.old }
 {
     let Ok(mut file) = fs::open(rt, name) else {
-        return FILE_LIMIT + 1;
+        return None;
     };
     let n = read_full(&mut file, &mut room[at..at + FILE_LIMIT]);
-    if ended(&mut file) { n } else { FILE_LIMIT + 1 }
+    if ended(&mut file) { Some(n) } else { None }
 }
 
 // Reads until the room is full, the file ends or a read fails; how many bytes it put there.
-fn read_full(file: &mut impl Read, room: &mut [u8]) -> usize {
+fn read_full(file: &mut impl Read, room: &mut [u8]) -> usize
+    ensures { result ≤ length room.old }
+{
     let mut done = 0;
     while done < room.len() {
         match file.read(&mut room[done..]) {
@@ -136,9 +135,8 @@ fn list_store(
     let written = listing_text::answer_line(answer, line);
     let next = show_answer(rt, room, snapshot, log, answer, rows, written, line);
     match answer {
-        Recovery::Recovered(info) => list_nodes(rt, of_snapshot, of_log, info, rows, next, line),
-        Recovery::RefusedSnapshot(_) => next,
-        Recovery::RefusedLog(_, _) => next,
+        Ok(info) => list_nodes(rt, of_snapshot, of_log, info, rows, next, line),
+        Err(_) => next,
     }
 }
 
@@ -152,7 +150,7 @@ fn list_nodes<'a>(
     first: usize,
     line: &mut [u8],
 ) -> usize
-    requires recovers { Recovers snapshot.now log.now (Recovered info) rows.now }
+    requires recovers { Recovers snapshot.now log.now (Ok info) rows.now }
     requires first_value { first ≡ 0 }
     requires longest_line_in_bounds { longest_line ≤ length line.old }
     ensures { result ≡ nodes_listed info.records rows.now }
@@ -185,7 +183,7 @@ fn refuse_file(rt: &impl Print, line: &mut [u8])
 }
 
 // ---- what may be shown; each answers the node that comes next
-fn show_file(rt: &impl Print, written: Written, line: &[u8])
+fn show_file(rt: &impl Print, written: Result<usize, Refusal>, line: &[u8])
     requires { Made (refusal_line_call File) written line.now }
 {
     show(rt, written, line);
@@ -196,9 +194,9 @@ fn show_answer(
     room: &[u8],
     snapshot: Found,
     log: Found,
-    answer: Recovery,
+    answer: Result<RecoveryInfo, NotRecovered>,
     rows: &[u64],
-    written: Written,
+    written: Result<usize, Refusal>,
     line: &[u8],
 ) -> usize
     requires recovers { Recovers (file_in snapshot room.now) (file_in log room.now) answer rows.now }
@@ -216,10 +214,10 @@ fn show_node(
     info: RecoveryInfo,
     rows: &[u64],
     node: Node,
-    written: Written,
+    written: Result<usize, Refusal>,
     line: &[u8],
 ) -> usize
-    requires recovers { Recovers snapshot.now log.now (Recovered info) rows.now }
+    requires recovers { Recovers snapshot.now log.now (Ok info) rows.now }
     requires made { Made (node_line_call info.config.dimensions rows.now info.records node.0 snapshot.now log.now) written line.now }
     ensures { result ≡ node.0 + 1 }
 {
@@ -229,10 +227,9 @@ fn show_node(
 
 // The bytes that a call wrote at the front of the line. A write that fails is not seen here: whoever runs the program sees it
 // (the script `list`).
-fn show(rt: &impl Print, written: Written, line: &[u8]) {
-    match written {
-        Written::Bytes(n) => show_front(rt, line, n),
-        Written::Refused(_) => {}
+fn show(rt: &impl Print, written: Result<usize, Refusal>, line: &[u8]) {
+    if let Ok(n) = written {
+        show_front(rt, line, n);
     }
 }
 

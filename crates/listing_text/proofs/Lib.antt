@@ -2,6 +2,6 @@ pub mod DecimalLaws
 pub mod PutLaws
 pub mod Spelled
 pub mod LineLaws
-pub mod ViewNumbers
+pub mod NodeLines
 pub mod Example
 pub mod FileLaws

@@ -1,14 +1,13 @@
 -- How long the lines are, and what a call answers and leaves that writes one where it fits.
+use Rattle.std.specs.Prelude.{Ok, Err}
 use Prim.Native.Nat.{ℕ, ◌+◌, ◌≤◌, ◌<◌}
 use native.Mathlib.Omega.{arith}
 use mathlib.Core.Path.{◌≡◌, sym, ap, ◌∙◌}
 use mathlib.Core.List.{List, ◌++◌, append_assoc}
 use lib.ListN.{length, length-append}
 use borrow.Author.Tests.{lt-ltb, le-ltb}
-use Rattle.refusal.specs.Refusal.{Result, answer, refused, written_told}
+use Rattle.refusal.specs.Refusal.{Answer, written_told}
 use Rattle.refusal.specs.declared.Refusal.TheVariants.{OutputTooShort}
-use Rattle.refusal.specs.declared.Written.{Written}
-use Rattle.refusal.specs.declared.Written.TheVariants as Writes
 use Rattle.fields.specs.Placed.{placed}
 use Rattle.meaning.specs.Calls.{output_after}
 use Rattle.listing_text.specs.Decimal.{decimal}
@@ -57,27 +56,27 @@ pub five : (a b c d e : List ℕ) → a ++ b ++ c ++ d ++ e ≡ a ++ (b ++ (c ++
 five a b c d e = ap (λ (l : List ℕ). l ++ e) (append_assoc (a ++ b) c d) ∙ append_assoc (a ++ b) (c ++ d) e ∙ append_assoc a b (c ++ d ++ e)
 
 -- ---- what a callee tells and leaves, of a result that is known to be another
-pub tells : (out : List ℕ) (x y : Result (List ℕ)) (r : Written) (left : List ℕ) → (r ≡ written_told x) × (left ≡ output_after out x) → x ≡ y
+pub tells : (out : List ℕ) (x y : Answer (List ℕ)) (r : Answer ℕ) (left : List ℕ) → (r ≡ written_told x) × (left ≡ output_after out x) → x ≡ y
     → (r ≡ written_told y) × (left ≡ output_after out y)
 tells out x y r left said e = (said.0 ∙ ap written_told e, said.1 ∙ ap (output_after out) e)
 
 -- ---- a line that is written where it fits
 module _ (out line : List ℕ) where
-  fitted_short : length out < length line → fitted out line ≡ refused OutputTooShort
+  fitted_short : length out < length line → fitted out line ≡ Err OutputTooShort
   unfolding fitted
   fitted_short h = simp (lt-ltb (length out) (length line) h)
 
-  pub fitted_whole : length line ≤ length out → fitted out line ≡ answer line
+  pub fitted_whole : length line ≤ length out → fitted out line ≡ Ok line
   unfolding fitted
   fitted_whole h = simp (le-ltb (length out) (length line) h)
 
-  pub too_short : (n : ℕ) → n ≡ length line → length out < n → (Writes.Refused OutputTooShort ≡ written_told (fitted out line)) × (out ≡ output_after out (fitted out line))
+  pub too_short : (n : ℕ) → n ≡ length line → length out < n → (Err OutputTooShort ≡ written_told (fitted out line)) × (out ≡ output_after out (fitted out line))
   too_short n e h =
-      let s : fitted out line ≡ refused OutputTooShort = fitted_short (omega arith) in
+      let s : fitted out line ≡ Err OutputTooShort = fitted_short (omega arith) in
       (sym (ap written_told s), sym (ap (output_after out) s))
 
   pub stands : (n : ℕ) (left : List ℕ) → n ≡ length line → n ≤ length out → left ≡ placed 0 line out
-      → (Writes.Bytes n ≡ written_told (fitted out line)) × (left ≡ output_after out (fitted out line))
+      → (Ok n ≡ written_told (fitted out line)) × (left ≡ output_after out (fitted out line))
   stands n left e h s =
-      let w : fitted out line ≡ answer line = fitted_whole (omega arith) in
-      (ap (λ (k : ℕ). Writes.Bytes k) e ∙ sym (ap written_told w), s ∙ sym (ap (output_after out) w))
+      let w : fitted out line ≡ Ok line = fitted_whole (omega arith) in
+      (ap (λ (k : ℕ). Ok k) e ∙ sym (ap written_told w), s ∙ sym (ap (output_after out) w))

@@ -4,18 +4,18 @@
 // written before the line's length is known to fit. The definitions are in specs/: Decimal, Lines, and Listing for the calls.
 #![tactic(auto)]
 
-ghost use Rattle.std.specs.Prelude.{◌≡◌, ◌++◌, cond, eqb, ◌+◌, ◌≤◌, length};
+ghost use Rattle.std.specs.Prelude.{◌≡◌, ◌++◌, ◌+◌, ◌≤◌, length};
 ghost use Rattle.refusal.specs.Refusal.{written_told};
-ghost use Rattle.refusal.specs.declared.Refusal.TheVariants.{WrongDimensions, NoSuchNode, RowDoesNotFit};
 ghost use Rattle.meaning.specs.Calls.{output_after};
 ghost use Rattle.fields.specs.Placed.{placed};
 ghost use Rattle.listing_text.specs.Decimal.{digit, decimal};
 ghost use Rattle.listing_text.specs.Lines.{ascii, newline, named, state_counts, log_counts, line_of, state_text};
-ghost use Rattle.listing_text.specs.Listing.{heading_shown, fitted, first_line_call, refusal_line_call, answer_line_call, node_line_call};
+ghost use Rattle.listing_text.specs.Listing.{heading_shown, stopped_by, fitted, first_line_call, refusal_line_call, answer_line_call, node_line_call};
 
-use recovery::{Recovery, RecoveryInfo};
-use refusal::{Refusal, Written};
+use recovery::{NotRecovered, RecoveryInfo};
+use refusal::Refusal;
 use rows::{Node, Row};
+use sources::Shown;
 
 // What the first line tells.
 #[derive(Clone, Copy)]
@@ -139,52 +139,52 @@ fn put_log(out: &mut [u8], at: usize, h: Heading) -> usize
 }
 
 // The first line of an accepted recovery.
-pub fn first_line(heading: Heading, out: &mut [u8]) -> Written
+pub fn first_line(heading: Heading, out: &mut [u8]) -> Result<usize, Refusal>
     ensures value { result ≡ written_told (first_line_call heading out.old) }
     ensures out_after { out.new ≡ output_after out.old (first_line_call heading out.old) }
 {
     let n = state_length(heading) + log_length(heading) + 1;
     if out.len() < n {
-        return Written::Refused(Refusal::OutputTooShort);
+        return Err(Refusal::OutputTooShort);
     }
     let a = put_state(out, 0, heading);
     let b = put_log(out, a, heading);
     put(out, b, b"\n");
-    Written::Bytes(n)
+    Ok(n)
 }
 
 // ---- a refusal's line
 // Words, a number and the newline.
-pub fn number_line(words: &[u8], n: u64, out: &mut [u8]) -> Written
+pub fn number_line(words: &[u8], n: u64, out: &mut [u8]) -> Result<usize, Refusal>
     ensures value { result ≡ written_told (fitted out.old (named words.now n ++ newline)) }
     ensures out_after { out.new ≡ output_after out.old (fitted out.old (named words.now n ++ newline)) }
 {
     let size = words.len() + digit_count(n) + 1;
     if out.len() < size {
-        return Written::Refused(Refusal::OutputTooShort);
+        return Err(Refusal::OutputTooShort);
     }
     let end = put_named(out, 0, words, n);
     put(out, end, b"\n");
-    Written::Bytes(size)
+    Ok(size)
 }
 
 // `refused log N at B`: the words take 16 bytes, the newline one.
-pub fn log_line(number: u64, at: u64, out: &mut [u8]) -> Written
+pub fn log_line(number: u64, at: u64, out: &mut [u8]) -> Result<usize, Refusal>
     ensures value { result ≡ written_told (fitted out.old (named (ascii "refused log ") number ++ (named (ascii " at ") at ++ newline))) }
     ensures out_after { out.new ≡ output_after out.old (fitted out.old (named (ascii "refused log ") number ++ (named (ascii " at ") at ++ newline))) }
 {
     let size = 17 + digit_count(number) + digit_count(at);
     if out.len() < size {
-        return Written::Refused(Refusal::OutputTooShort);
+        return Err(Refusal::OutputTooShort);
     }
     let a = put_named(out, 0, b"refused log ", number);
     let b = put_named(out, a, b" at ", at);
     put(out, b, b"\n");
-    Written::Bytes(size)
+    Ok(size)
 }
 
 // The line that stands in place of all others.
-pub fn refusal_line(stopped: Stopped, out: &mut [u8]) -> Written
+pub fn refusal_line(stopped: Stopped, out: &mut [u8]) -> Result<usize, Refusal>
     ensures value { result ≡ written_told (refusal_line_call stopped out.old) }
     ensures out_after { out.new ≡ output_after out.old (refusal_line_call stopped out.old) }
 {
@@ -213,38 +213,57 @@ fn heading_of(info: RecoveryInfo) -> Heading
     }
 }
 
+impl From<NotRecovered> for Stopped {
+    fn from(why: NotRecovered) -> Stopped
+        ensures { result ≡ stopped_by why }
+    {
+        match why {
+            NotRecovered::Snapshot(why) => Stopped::Snapshot(why),
+            NotRecovered::Log(why, at) => Stopped::Log(why, at),
+        }
+    }
+}
+
 // The first line of an answer that is no refusal, or the refusal's line.
-pub fn answer_line(answer: Recovery, out: &mut [u8]) -> Written
+pub fn answer_line(
+    answer: Result<RecoveryInfo, NotRecovered>,
+    out: &mut [u8],
+) -> Result<usize, Refusal>
     ensures value { result ≡ written_told (answer_line_call answer out.old) }
     ensures out_after { out.new ≡ output_after out.old (answer_line_call answer out.old) }
 {
     match answer {
-        Recovery::Recovered(info) => first_line(heading_of(info), out),
-        Recovery::RefusedSnapshot(why) => refusal_line(Stopped::Snapshot(why), out),
-        Recovery::RefusedLog(why, at) => refusal_line(Stopped::Log(why, at), out),
+        Ok(info) => first_line(heading_of(info), out),
+        Err(why) => refusal_line(Stopped::from(why), out),
     }
 }
 
 // ---- the line of a node
 // Node, ID, state and what follows it; the space between node and ID, and the newline, take two bytes.
-fn line_of(node: u64, id: u64, state: &[u8], caption: &[u8], out: &mut [u8]) -> Written
+fn line_of(
+    node: u64,
+    id: u64,
+    state: &[u8],
+    caption: &[u8],
+    out: &mut [u8],
+) -> Result<usize, Refusal>
     requires { length state.now ≤ 6 }
     ensures value { result ≡ written_told (fitted out.old (line_of node id (state.now ++ caption.now))) }
     ensures out_after { out.new ≡ output_after out.old (fitted out.old (line_of node id (state.now ++ caption.now))) }
 {
     let size = digit_count(node) + digit_count(id) + state.len() + caption.len() + 2;
     if out.len() < size {
-        return Written::Refused(Refusal::OutputTooShort);
+        return Err(Refusal::OutputTooShort);
     }
     let a = put_decimal(out, 0, node);
     let b = put_named(out, a, b" ", id);
     let c = put(out, b, state);
     let d = put(out, c, caption);
     put(out, d, b"\n");
-    Written::Bytes(size)
+    Ok(size)
 }
 
-fn state_line(node: Node, row: Row, caption: &[u8], out: &mut [u8]) -> Written
+fn state_line(node: Node, row: Row, caption: &[u8], out: &mut [u8]) -> Result<usize, Refusal>
     ensures value { result ≡ written_told (fitted out.old (line_of node.0 row.id.0 (state_text row.deleted caption.now))) }
     ensures out_after { out.new ≡ output_after out.old (fitted out.old (line_of node.0 row.id.0 (state_text row.deleted caption.now))) }
 {
@@ -255,20 +274,7 @@ fn state_line(node: Node, row: Row, caption: &[u8], out: &mut [u8]) -> Written
     line_of(node.0 as u64, id.0, b" live ", caption, out)
 }
 
-// The view tells its refusal by number, and has three.
-fn refusal_of(number: u32) -> Refusal
-    ensures { result ≡ cond (eqb number 6) WrongDimensions (cond (eqb number 30) NoSuchNode RowDoesNotFit) }
-{
-    if number == 6 {
-        return Refusal::WrongDimensions;
-    }
-    if number == 30 {
-        return Refusal::NoSuchNode;
-    }
-    Refusal::RowDoesNotFit
-}
-
-// The line of a node below the count; 6, 30 and 31 as `views::caption_number` tells them, then 32.
+// The line of a node below the count; 6, 30 and 31 as the caption's view has them, then 32.
 pub fn node_line<'a>(
     snapshot: &'a [u8],
     log: &'a [u8],
@@ -277,15 +283,12 @@ pub fn node_line<'a>(
     node: Node,
     d: usize,
     out: &mut [u8],
-) -> Written
+) -> Result<usize, Refusal>
     ensures value { result ≡ written_told (node_line_call d rows.now count node.0 snapshot.now log.now out.old) }
     ensures out_after { out.new ≡ output_after out.old (node_line_call d rows.now count node.0 snapshot.now log.now out.old) }
 {
-    let number = views::caption_number(snapshot, log, rows, count, node, d);
-    if number != 0 {
-        return Written::Refused(refusal_of(number));
-    }
+    let part = views::view(Shown::Caption, snapshot, log, rows, count, node, d)?;
     let row = rows::row_at(rows, node);
-    let caption = views::caption_view(snapshot, log, rows, count, node, d);
+    let caption = sources::cut(snapshot, log, part);
     state_line(node, row, caption, out)
 }

@@ -1,5 +1,6 @@
 -- A node's line over rows that lie in their sources: it is never refused, fits the longest line, and the lines one behind the other
 -- are the definition's.
+use Rattle.std.specs.Prelude.{Ok}
 use Prim.Native.Nat.{ℕ, zero, suc, ◌+◌, ◌≤◌, ◌<◌}
 use native.Mathlib.Omega.{arith}
 use mathlib.Core.Path.{◌≡◌, refl, ap, ap₂, ◌∙◌}
@@ -10,7 +11,7 @@ use borrow.Author.Tests.{le-ltb, lt-leb}
 use Rattle.config.specs.Limits.{min_dimensions, max_dimensions, max_records}
 use Rattle.config.specs.Settings.{Bounded}
 use Rattle.config.specs.declared.Config.{Config}
-use Rattle.refusal.specs.Refusal.{Result, answer}
+use Rattle.refusal.specs.Refusal.{Answer}
 use Rattle.refusal.specs.declared.Refusal.TheVariants.{WrongDimensions, NoSuchNode, RowDoesNotFit, OutputTooShort}
 use Rattle.refusal.proofs.Results.{pass, go_on}
 use Rattle.rows.specs.Lent.{rows_lent_plain}
@@ -43,19 +44,19 @@ module _ (c : Config) (bounded : Bounded c) (words : List ℕ) (count : ℕ) (le
   abbrev d : ℕ
   d = c.dimensions
 
-  abbrev call : ℕ → Result (List ℕ)
+  abbrev call : ℕ → Answer (List ℕ)
   call n = node_line_call d words count n snapshot log (outs n)
 
-  viewed : (n : ℕ) → n < count → Sourced c snapshot log (row_at words n) → view Caption d words count n snapshot log ≡ answer (shown_part Caption d (row_at words n))
+  viewed : (n : ℕ) → n < count → Sourced c snapshot log (row_at words n) → view Caption d words count n snapshot log ≡ Ok (shown_part Caption d (row_at words n))
   unfolding view row_for part_for
   viewed n h s =
-      let row : row_for d words count n ≡ answer (row_at words n) =
+      let row : row_for d words count n ≡ Ok (row_at words n) =
       pass WrongDimensions _ _ (le-ltb d min_dimensions bounded.d_low) ∙ pass WrongDimensions _ _ (le-ltb max_dimensions d bounded.d_high)
       ∙ pass NoSuchNode _ _ (lt-leb count n h) ∙ pass NoSuchNode _ _ (le-ltb (rows_lent_plain words) count lent) in
       go_on (row_for d words count n) _ (row_at words n) row
       ∙ pass RowDoesNotFit (outside snapshot log (shown_part Caption d (row_at words n))) _ (le-ltb _ _ s.inside)
 
-  called : (n : ℕ) → n < count → Sourced c snapshot log (row_at words n) → call n ≡ answer (node_line n (seen d snapshot log (row_at words n)))
+  called : (n : ℕ) → n < count → Sourced c snapshot log (row_at words n) → call n ≡ Ok (node_line n (seen d snapshot log (row_at words n)))
   unfolding node_line_call fitted
   called n h s =
       let line = node_line n (seen d snapshot log (row_at words n)) in

@@ -1,4 +1,5 @@
 -- What an answer says of one frame of a log: its length, its payload, its place and its number; and what makes a frame be found.
+use Rattle.std.specs.Prelude.{Ok, Err}
 use Prim.Native.Nat.{ℕ, ◌+◌, ◌-◌, ◌≤◌, ◌<◌}
 use native.Mathlib.Omega.{arith}
 use mathlib.Core.Path.{◌≡◌, refl, sym, ap, ◌∙◌, subst}
@@ -9,7 +10,7 @@ use Rattle.crc32.specs.Crc.{crc_of}
 use Rattle.fields.specs.Fields.{part, num}
 use Rattle.config.specs.Limits.{min_frame, max_frame}
 use Rattle.config.specs.declared.Config.{Config}
-use Rattle.refusal.specs.Refusal.{Result, answer, refused}
+use Rattle.refusal.specs.Refusal.{Answer}
 use Rattle.refusal.specs.declared.Refusal.TheVariants.{BytesLeftOver, WrongPayloadCrc, WrongSequence, WrongLengthCrc, WrongLength}
 use Rattle.meaning.specs.Replay.{Frame}
 use Rattle.rows.specs.declared.Row.{Row}
@@ -27,7 +28,7 @@ pub record LengthHere (log : List ℕ) (at n : ℕ) : Type 0 where
   pub least : min_frame ≤ n
   pub most : n ≤ max_frame
 
-pub length_read : (log : List ℕ) (at n : ℕ) → length_at log at ≡ answer n → LengthHere log at n
+pub length_read : (log : List ℕ) (at n : ℕ) → length_at log at ≡ Ok n → LengthHere log at n
 unfolding length_at
 length_read log at n e =
     let crc = crc_of (part log at 4) in
@@ -63,7 +64,7 @@ order_read previous sequence e = go (eqb sequence 0) refl (eqb previous 0) refl 
         record { positive = omega arith; one_more = λ h. eqb-true sequence (previous + 1) (not-false (eqb sequence (previous + 1)) e) }
 
 -- the operations of a frame at `at` whose payload ends at `end`
-abbrev pub operations_read : Config → List ℕ → ℕ → ℕ → Result ReadOperations
+abbrev pub operations_read : Config → List ℕ → ℕ → ℕ → Answer ReadOperations
 operations_read c log end at = operations_of (shape_of (num log (at + 8) 1)) c log end (num log (at + 8) 1) (at + 17)
 
 pub record PayloadHere (c : Config) (log : List ℕ) (previous at n : ℕ) (f : Frame Row) : Type 0 where
@@ -72,10 +73,10 @@ pub record PayloadHere (c : Config) (log : List ℕ) (previous at n : ℕ) (f : 
   pub start_is : f.start ≡ at
   pub sequence_is : f.sequence ≡ num log (at + 9) 8
   pub shape_is : f.shape ≡ shape_of (num log (at + 8) 1)
-  pub operations_read_lem : operations_read c log (at + 8 + n) at ≡ answer (record { operations = f.operations; next = at + 8 + n })
+  pub operations_read_lem : operations_read c log (at + 8 + n) at ≡ Ok (record { operations = f.operations; next = at + 8 + n })
 
 pub payload_read : (c : Config) (log : List ℕ) (previous at n : ℕ) (f : Frame Row)
-    → payload_at c log previous at n ≡ answer f → PayloadHere c log previous at n f
+    → payload_at c log previous at n ≡ Ok f → PayloadHere c log previous at n f
 unfolding payload_at
 payload_read c log previous at n f e =
     let crc = crc_of (part log (at + 8) n) in
@@ -94,7 +95,7 @@ payload_read c log previous at n f e =
       start_is = sym (ap (λ (g : Frame Row). g.start) is);
       sequence_is = sym (ap (λ (g : Frame Row). g.sequence) is);
       shape_is = sym (ap (λ (g : Frame Row). g.shape) is);
-      operations_read_lem = s3.first ∙ (λ i. answer (record { operations = (is i).operations; next = stop i }));
+      operations_read_lem = s3.first ∙ (λ i. Ok (record { operations = (is i).operations; next = stop i }));
     }
 
 -- ---- what stands at a byte, told apart
@@ -131,22 +132,22 @@ found_next f g i j e = ap (next_or i) e
 
 -- ---- a frame found
 pub record FrameHere (c : Config) (log : List ℕ) (previous at : ℕ) (f : Frame Row) (next : ℕ) : Type 0 where
-  pub length_answers : length_at log at ≡ answer (num log at 4)
+  pub length_answers : length_at log at ≡ Ok (num log at 4)
   pub least : min_frame ≤ num log at 4
   pub most : num log at 4 ≤ max_frame
   pub inside : at + frame_length (num log at 4) ≤ length log
   pub next_is : next ≡ at + frame_length (num log at 4)
-  pub payload_answers : payload_at c log previous at (num log at 4) ≡ answer f
+  pub payload_answers : payload_at c log previous at (num log at 4) ≡ Ok f
 
 pub frame_read_lem : (c : Config) (log : List ℕ) (previous at : ℕ) (f : Frame Row) (next : ℕ)
     → frame_at c log previous at ≡ found f next → FrameHere c log previous at f next
 unfolding frame_at
 frame_read_lem c log previous at f next e = one (ltb (length log - at) 8) (length_at log at) refl e
   where
-    three : (n : ℕ) → length_at log at ≡ answer n → frame_length n ≤ length log - at → (r : Result (Frame Row)) → payload_at c log previous at n ≡ r
+    three : (n : ℕ) → length_at log at ≡ Ok n → frame_length n ≤ length log - at → (r : Answer (Frame Row)) → payload_at c log previous at n ≡ r
         → frame_read (at + frame_length n) r ≡ found f next → FrameHere c log previous at f next
-    three n l h (refused why) p e = absurd (subst IsFound (sym e) tt)
-    three n l h (answer g) p e =
+    three n l h (Err why) p e = absurd (subst IsFound (sym e) tt)
+    three n l h (Ok g) p e =
         let k = num log at 4 in
         let here = length_read log at n l in
         let is : n ≡ k = here.length_is in
@@ -154,24 +155,24 @@ frame_read_lem c log previous at f next e = one (ltb (length log - at) 8) (lengt
         let most : n ≤ max_frame = here.most in
         let step : at + frame_length n ≡ next = found_next g f (at + frame_length n) next e in
         record {
-          length_answers = l ∙ ap (λ (x : ℕ). answer x) is;
+          length_answers = l ∙ ap (λ (x : ℕ). Ok x) is;
           least = subst (λ (x : ℕ). min_frame ≤ x) is least;
           most = subst (λ (x : ℕ). x ≤ max_frame) is most;
           inside = omega arith;
           next_is = omega arith;
-          payload_answers = ap (payload_at c log previous at) (sym is) ∙ p ∙ ap (λ (x : Frame Row). answer x) (found_frame g f (at + frame_length n) next e);
+          payload_answers = ap (payload_at c log previous at) (sym is) ∙ p ∙ ap (λ (x : Frame Row). Ok x) (found_frame g f (at + frame_length n) next e);
         }
 
-    two : (n : ℕ) → length_at log at ≡ answer n → (b : Bool) → ltb (length log - at) (frame_length n) ≡ b
+    two : (n : ℕ) → length_at log at ≡ Ok n → (b : Bool) → ltb (length log - at) (frame_length n) ≡ b
         → cond b too_little (frame_read (at + frame_length n) (payload_at c log previous at n)) ≡ found f next → FrameHere c log previous at f next
     two n l true t e = absurd (subst IsFound (sym e) tt)
     two n l false t e = three n l (ltb-false (length log - at) (frame_length n) t) (payload_at c log previous at n) refl e
 
-    one : (b : Bool) (r : Result ℕ) → length_at log at ≡ r → cond b too_little (with_length c log previous at r) ≡ found f next
+    one : (b : Bool) (r : Answer ℕ) → length_at log at ≡ r → cond b too_little (with_length c log previous at r) ≡ found f next
         → FrameHere c log previous at f next
     one true r l e = absurd (subst IsFound (sym e) tt)
-    one false (refused why) l e = absurd (subst IsFound (sym e) tt)
-    one false (answer n) l e = two n l (ltb (length log - at) (frame_length n)) refl e
+    one false (Err why) l e = absurd (subst IsFound (sym e) tt)
+    one false (Ok n) l e = two n l (ltb (length log - at) (frame_length n)) refl e
 
 pub frame_reads : (c : Config) (log : List ℕ) (previous at : ℕ) (f : Frame Row) (next : ℕ)
     → FrameHere c log previous at f next → frame_at c log previous at ≡ found f next

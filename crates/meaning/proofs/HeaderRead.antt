@@ -1,4 +1,5 @@
 -- A snapshot's header, read: an answer says these facts, and they give the answer.
+use Rattle.std.specs.Prelude.{Ok}
 use Prim.Native.Nat.{ℕ, ◌-◌, ◌/◌, ◌≤◌}
 use mathlib.Core.Path.{◌≡◌, sym, ap, ◌∙◌}
 use mathlib.Core.Bool.{false, not}
@@ -9,7 +10,6 @@ use Rattle.fields.specs.Fields.{num, le}
 use Rattle.config.specs.Limits.{min_snapshot_bytes, max_snapshot_bytes, max_records}
 use Rattle.config.specs.Settings.{validate}
 use Rattle.config.specs.declared.Metric.{Metric}
-use Rattle.refusal.specs.Refusal.{answer}
 use Rattle.refusal.specs.declared.Refusal.TheVariants.{LengthOutOfBounds, WrongMagic, WrongCount, PastTheEnd}
 use Rattle.layout.specs.Layout.{record_length, magic, header_length}
 use Rattle.layout.specs.declared.Version.{Version}
@@ -24,9 +24,9 @@ pub record HeaderFacts (s : List ℕ) (v : Version) (metric : Metric) : Type 0 w
   pub long_enough : min_snapshot_bytes ≤ length s
   pub short_enough : length s ≤ max_snapshot_bytes
   pub magic_is : num s 0 8 ≡ le magic
-  pub version_is : version_of (num s 8 4) ≡ answer v
-  pub metric_is : header_metric v s ≡ answer metric
-  pub valid : validate (header_config v s metric) ≡ answer tt
+  pub version_is : version_of (num s 8 4) ≡ Ok v
+  pub metric_is : header_metric v s ≡ Ok metric
+  pub valid : validate (header_config v s metric) ≡ Ok tt
   pub whole : header_length v ≤ body_length s
   pub few : header_count v s ≤ max_records
   pub room : header_count v s ≤ (body_length s - header_length v) / record_length (num s 12 4) 0
@@ -40,7 +40,7 @@ pub record HeaderRead (s : List ℕ) (h : Header) : Type 0 where
 
 -- the fields behind the version
 fields_read : (s : List ℕ) (v : Version) (h : Header) → min_snapshot_bytes ≤ length s → length s ≤ max_snapshot_bytes → num s 0 8 ≡ le magic
-    → version_of (num s 8 4) ≡ answer v → header_for s v ≡ answer h → HeaderRead s h
+    → version_of (num s 8 4) ≡ Ok v → header_for s v ≡ Ok h → HeaderRead s h
 unfolding header_for counted_header
 fields_read s v h long short first_is version_is e =
     let s1 = passed (header_metric v s) _ h e in
@@ -69,7 +69,7 @@ fields_read s v h long short first_is version_is e =
       is = sym (answer_injective (header_in v s m) h s6.then);
     }
 
-pub header_read : (s : List ℕ) (h : Header) → read_header s ≡ answer h → HeaderRead s h
+pub header_read : (s : List ℕ) (h : Header) → read_header s ≡ Ok h → HeaderRead s h
 unfolding read_header
 header_read s h e =
     let s1 = went LengthOutOfBounds (ltb (length s) min_snapshot_bytes) _ h e in
@@ -78,7 +78,7 @@ header_read s h e =
     let s4 = passed (version_of (num s 8 4)) (header_for s) h s3.then in
     fields_read s s4.value h (ltb-false _ _ s1.test_false) (ltb-false _ _ s2.test_false) (eqb-true _ _ (not-false _ s3.test_false)) s4.first s4.then
 
-pub header_reads : (s : List ℕ) (v : Version) (m : Metric) → HeaderFacts s v m → read_header s ≡ answer (header_in v s m)
+pub header_reads : (s : List ℕ) (v : Version) (m : Metric) → HeaderFacts s v m → read_header s ≡ Ok (header_in v s m)
 unfolding read_header header_for counted_header
 header_reads s v m f =
     pass LengthOutOfBounds (ltb (length s) min_snapshot_bytes) _ (le-ltb _ _ f.long_enough)

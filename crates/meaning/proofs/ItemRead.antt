@@ -1,4 +1,5 @@
 -- What an answer of `item_at` says, and what makes it answer.
+use Rattle.std.specs.Prelude.{Ok}
 use Prim.Native.Nat.{ℕ, ◌+◌, ◌*◌, ◌≤◌}
 use native.Mathlib.Omega.{arith}
 use mathlib.Core.Path.{◌≡◌, sym, ap, ap₂, subst, ◌∙◌}
@@ -9,7 +10,6 @@ use Rattle.utf8.specs.Utf8.{is_utf8}
 use Rattle.fields.specs.Fields.{part, num}
 use Rattle.config.specs.Settings.{caption_limit}
 use Rattle.config.specs.declared.Config.{Config}
-use Rattle.refusal.specs.Refusal.{answer}
 use Rattle.refusal.specs.declared.Refusal.{Refusal}
 use Rattle.refusal.specs.declared.Refusal.TheVariants.{PastTheEnd, CaptionTooLong, NotUtf8}
 use Rattle.layout.specs.Layout.{caption_offset, item_length}
@@ -22,10 +22,10 @@ pub record ItemHere (c : Config) (s : List ℕ) (end at n : ℕ) : Type 0 where
   pub caption_is : n ≡ num s (at + 4 * c.dimensions) 4
   pub inside : at + item_length c.dimensions n ≤ end
   pub short : n ≤ caption_limit c
-  pub vector_good : coordinates c (part s at (4 * c.dimensions)) ≡ answer tt
+  pub vector_good : coordinates c (part s at (4 * c.dimensions)) ≡ Ok tt
   pub caption_good : is_utf8 (part s (at + caption_offset c.dimensions) n) ≡ true
 
-pub item_read : (short : Refusal) (c : Config) (s : List ℕ) (end at n : ℕ) → item_at short c s end at ≡ answer n → ItemHere c s end at n
+pub item_read : (short : Refusal) (c : Config) (s : List ℕ) (end at n : ℕ) → item_at short c s end at ≡ Ok n → ItemHere c s end at n
 unfolding item_at caption_at
 item_read short c s end at n e =
     let d = 4 * c.dimensions in
@@ -48,7 +48,7 @@ item_read short c s end at n e =
       caption_good = sym (ap₂ (λ (x y : ℕ). is_utf8 (part s x y)) place is) ∙ good;
     }
 
-pub item_reads : (short : Refusal) (c : Config) (s : List ℕ) (end at n : ℕ) → ItemHere c s end at n → item_at short c s end at ≡ answer n
+pub item_reads : (short : Refusal) (c : Config) (s : List ℕ) (end at n : ℕ) → ItemHere c s end at n → item_at short c s end at ≡ Ok n
 unfolding item_at caption_at
 item_reads short c s end at n i =
     let d = 4 * c.dimensions in
@@ -68,4 +68,4 @@ item_reads short c s end at n i =
     ∙ pass PastTheEnd (ltb end (at + d + 4 + k)) _ (le-ltb end (at + d + 4 + k) h5)
     ∙ pass NotUtf8 (not (is_utf8 (part s (at + d + 4) k))) _
     (ap not (ap₂ (λ (x y : ℕ). is_utf8 (part s x y)) place (sym is) ∙ i.caption_good))
-    ∙ ap (λ (x : ℕ). answer x) (sym is)
+    ∙ ap (λ (x : ℕ). Ok x) (sym is)

@@ -1,4 +1,5 @@
 -- What an answer says of an operation that was encoded: what was tested of it, and its bytes.
+use Rattle.std.specs.Prelude.{Ok}
 use Prim.Native.Nat.{ℕ, ◌+◌, ◌≤◌}
 use mathlib.Core.Path.{◌≡◌, sym}
 use mathlib.Core.Bool.{true, not}
@@ -10,7 +11,6 @@ use Rattle.fields.specs.Fields.{part, bytes}
 use Rattle.coordinates.specs.Coordinates.{coordinate_bytes}
 use Rattle.config.specs.Settings.{caption_limit}
 use Rattle.config.specs.declared.Config.{Config}
-use Rattle.refusal.specs.Refusal.{answer}
 use Rattle.refusal.specs.declared.Refusal.TheVariants.{CaptionTooLong, RequestMalformed, NotUtf8}
 use Rattle.meaning.specs.Item.{coordinates}
 use Rattle.meaning.specs.Encoder.{Asked, asked_length, asked_start, Tagged, put_fields, encode_put, encode_delete}
@@ -20,11 +20,11 @@ use Rattle.refusal.proofs.Results.{answer_injective, passed, went}
 pub record PutEncoded (c : Config) (coords captions : List ℕ) (o : Asked) (e : Tagged) : Type 0 where
   pub short : asked_length o ≤ caption_limit c
   pub inside : asked_start o + asked_length o ≤ length captions
-  pub vector_good : coordinates c (coordinate_bytes coords) ≡ answer tt
+  pub vector_good : coordinates c (coordinate_bytes coords) ≡ Ok tt
   pub caption_good : is_utf8 (part captions (asked_start o) (asked_length o)) ≡ true
   pub is : e ≡ record { tag = 1; fields = put_fields o.id coords (asked_length o) (part captions (asked_start o) (asked_length o)) }
 
-pub put_encoded : (c : Config) (coords captions : List ℕ) (o : Asked) (e : Tagged) → encode_put c coords captions o ≡ answer e → PutEncoded c coords captions o e
+pub put_encoded : (c : Config) (coords captions : List ℕ) (o : Asked) (e : Tagged) → encode_put c coords captions o ≡ Ok e → PutEncoded c coords captions o e
 unfolding encode_put
 put_encoded c coords captions o e h =
     let n = asked_length o in
@@ -45,7 +45,7 @@ pub record DeleteEncoded (o : Asked) (e : Tagged) : Type 0 where
   pub word_is : o.word ≡ 0
   pub is : e ≡ record { tag = 2; fields = bytes 8 o.id }
 
-pub delete_encoded : (o : Asked) (e : Tagged) → encode_delete o ≡ answer e → DeleteEncoded o e
+pub delete_encoded : (o : Asked) (e : Tagged) → encode_delete o ≡ Ok e → DeleteEncoded o e
 unfolding encode_delete
 delete_encoded o e h =
     let s = went RequestMalformed (not (eqb o.word 0)) _ e h in

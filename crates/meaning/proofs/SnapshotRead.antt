@@ -1,4 +1,5 @@
 -- A snapshot's records and the snapshot, read: an answer says these facts, and they give the answer.
+use Rattle.std.specs.Prelude.{Ok}
 use Prim.Native.Nat.{ℕ, zero, suc, ◌+◌, ◌≤◌}
 use native.Mathlib.Omega.{arith}
 use mathlib.Core.Path.{◌≡◌, refl, sym, ap, ◌∙◌, subst}
@@ -10,7 +11,6 @@ use Rattle.crc32.specs.Crc.{crc_of}
 use Rattle.fields.specs.Fields.{part, num}
 use Rattle.config.specs.declared.Config.{Config}
 use Rattle.config.specs.declared.Metric.{Metric}
-use Rattle.refusal.specs.Refusal.{answer}
 use Rattle.refusal.specs.declared.Refusal.TheVariants.{PastTheEnd, WrongFlag, VectorPastTheEnd, TooFewRows, BytesLeftOver, WrongFileCrc, ActiveTwice}
 use Rattle.layout.specs.Layout.{record_head, record_length}
 use Rattle.layout.specs.declared.Version.{Version}
@@ -35,7 +35,7 @@ pub record RecordRead (c : Config) (s : List ℕ) (end at : ℕ) (x : ReadRow) :
   pub facts : RecordFacts c s end at caption
   pub is : x ≡ snapshot_row c s at caption
 
-pub record_facts : (c : Config) (s : List ℕ) (end at : ℕ) (x : ReadRow) → record_at c s end at ≡ answer x → RecordRead c s end at x
+pub record_facts : (c : Config) (s : List ℕ) (end at : ℕ) (x : ReadRow) → record_at c s end at ≡ Ok x → RecordRead c s end at x
 unfolding record_at
 record_facts c s end at x e =
     let s1 = went PastTheEnd (ltb end (at + record_head)) _ x e in
@@ -68,7 +68,7 @@ pub record RecordsRead (n : ℕ) (c : Config) (s : List ℕ) (end at : ℕ) (x :
   pub each : Every (RowRead c s end) x.rows
   pub sized : at + size (row_kind c.dimensions) x.rows ≤ x.next
 
-pub records_facts : (n : ℕ) (c : Config) (s : List ℕ) (end at : ℕ) (x : ReadRows) → records_at n c s end at ≡ answer x → RecordsRead n c s end at x
+pub records_facts : (n : ℕ) (c : Config) (s : List ℕ) (end at : ℕ) (x : ReadRows) → records_at n c s end at ≡ Ok x → RecordsRead n c s end at x
 unfolding records_at size
 records_facts zero c s end at x e = subst (RecordsRead 0 c s end at) (answer_injective _ x e) (record { counted = refl; each = tt; sized = omega arith })
 records_facts (suc n) c s end at x e =
@@ -91,9 +91,9 @@ records_facts (suc n) c s end at x e =
 
 -- ---- the file up to and with its CRC, in the words of its header's fields
 pub record PartsFacts (lent : ℕ) (s : List ℕ) (h : Header) (found : ReadRows) : Type 0 where
-  pub header_is : read_header s ≡ answer h
+  pub header_is : read_header s ≡ Ok h
   pub enough : h.count ≤ lent
-  pub records_are : records_at h.count h.config s (body_length s) h.first ≡ answer found
+  pub records_are : records_at h.count h.config s (body_length s) h.first ≡ Ok found
   pub ends : found.next ≡ body_length s
   pub crc_is : crc_of (part s 0 (body_length s)) ≡ num s (body_length s) 4
 
@@ -108,7 +108,7 @@ pub record PartsRead (lent : ℕ) (s : List ℕ) (x : Snapshot) : Type 0 where
   pub facts : PartsFacts lent s (header_in version s metric) found
   pub is : snapshot_in s (header_in version s metric) found ≡ x
 
-pub parts_facts : (lent : ℕ) (s : List ℕ) (x : Snapshot) → read_parts lent s ≡ answer x → PartsRead lent s x
+pub parts_facts : (lent : ℕ) (s : List ℕ) (x : Snapshot) → read_parts lent s ≡ Ok x → PartsRead lent s x
 unfolding read_parts read_body
 parts_facts lent s x e =
     let s1 = passed (read_header s) _ x e in
@@ -141,7 +141,7 @@ pub record SnapshotRead (lent : ℕ) (s : List ℕ) (x : Snapshot) : Type 0 wher
   pub parts : PartsRead lent s x
   pub once : live_twice x.rows ≡ false
 
-pub snapshot_facts : (lent : ℕ) (s : List ℕ) (x : Snapshot) → read_snapshot lent s ≡ answer x → SnapshotRead lent s x
+pub snapshot_facts : (lent : ℕ) (s : List ℕ) (x : Snapshot) → read_snapshot lent s ≡ Ok x → SnapshotRead lent s x
 unfolding read_snapshot
 snapshot_facts lent s x e =
     let s1 = passed (read_parts lent s) _ x e in
@@ -150,7 +150,7 @@ snapshot_facts lent s x e =
     subst (SnapshotRead lent s) (answer_injective y x s2.then) (record { parts = parts_facts lent s y s1.first; once = s2.test_false })
 
 pub snapshot_reads : (lent : ℕ) (s : List ℕ) (h : Header) (found : ReadRows) → PartsFacts lent s h found → live_twice found.rows ≡ false
-    → read_snapshot lent s ≡ answer (snapshot_in s h found)
+    → read_snapshot lent s ≡ Ok (snapshot_in s h found)
 unfolding read_snapshot read_parts read_body
 snapshot_reads lent s h found f once =
     go_on (read_parts lent s) _ (snapshot_in s h found)

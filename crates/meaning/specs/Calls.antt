@@ -1,10 +1,10 @@
 -- Each call that is offered to users: what it answers and what its lent memory holds after, refused or not, as a function of what is
 -- handed in. The contracts of the code cite these.
-use Rattle.std.specs.Prelude.{ℕ, ◌+◌, ◌-◌, Bool, true, cond, List, [], length, ltb, eqb}
+use Rattle.std.specs.Prelude.{ℕ, ◌+◌, ◌-◌, Bool, true, cond, List, [], length, ltb, eqb, Ok, Err}
 use Rattle.config.specs.Settings.{validate}
 use Rattle.config.specs.declared.Config.{Config}
 use Rattle.rows.specs.Lent.{rows_lent}
-use Rattle.refusal.specs.Refusal.{Result, answer, refused, ◌>>=◌, refuse, told}
+use Rattle.refusal.specs.Refusal.{Answer, ◌>>=◌, refuse, told}
 use Rattle.refusal.specs.declared.Refusal.TheVariants.{PastTheEnd}
 use Rattle.layout.specs.Layout.{crc_length, frame_head, sequence_length, batch_head}
 use Rattle.layout.specs.declared.Extent.{Extent}
@@ -20,12 +20,12 @@ use Rattle.meaning.specs.Writer.{write}
 use Rattle.meaning.specs.Encoder.{encode, delete_frame}
 
 -- ---- reading and recovery: two lent tables, row words and active entries
-abbrev pub read_call : List ℕ → List ℕ → List ℕ → Result Snapshot
+abbrev pub read_call : List ℕ → List ℕ → List ℕ → Answer Snapshot
 read_call words entries snapshot = read_snapshot (rows_lent words entries) snapshot
 
-abbrev pub read_tables : List ℕ → List ℕ → Result Snapshot → Tables
-read_tables words entries (answer s) = tables_for words entries s.rows
-read_tables words entries (refused why) = tables_for words entries []
+abbrev pub read_tables : List ℕ → List ℕ → Answer Snapshot → Tables
+read_tables words entries (Ok s) = tables_for words entries s.rows
+read_tables words entries (Err why) = tables_for words entries []
 
 -- what an accepted recovery answers
 pub record RecoveryTold : Type 0 where
@@ -83,26 +83,26 @@ id_offset Single = 1 + sequence_length
 id_offset Batch = 1
 
 -- 4 where the operations end past the log's end, or the ID begins past their end; then by the tag
-abbrev pub operation_within : Config → List ℕ → Shape → ℕ → ℕ → Result ReadOperation
+abbrev pub operation_within : Config → List ℕ → Shape → ℕ → ℕ → Answer ReadOperation
 operation_within c log shape end at = do
   _ ← refuse PastTheEnd (ltb (length log) end)
   _ ← refuse PastTheEnd (ltb end (at + id_offset shape))
   operation_at c log end (num log at 1) (at + id_offset shape)
 
 -- 6, 7, 8, then the operation whose tag stands at `at`
-abbrev pub operation_call : Config → List ℕ → Shape → ℕ → ℕ → Result ReadOperation
+abbrev pub operation_call : Config → List ℕ → Shape → ℕ → ℕ → Answer ReadOperation
 operation_call c log shape end at = validate c >>= λ _. operation_within c log shape end at
 
 -- ---- writers: a lent output
 -- the bytes at its front and the rest untouched, or no byte changed
-abbrev pub output_after : List ℕ → Result (List ℕ) → List ℕ
-output_after out (answer bytes) = placed 0 bytes out
-output_after out (refused why) = out
+abbrev pub output_after : List ℕ → Answer (List ℕ) → List ℕ
+output_after out (Ok bytes) = placed 0 bytes out
+output_after out (Err why) = out
 
-abbrev pub write_call : Extent → Config → ℕ → List ℕ → ℕ → List ℕ → List ℕ → List ℕ → Result (List ℕ)
+abbrev pub write_call : Extent → Config → ℕ → List ℕ → ℕ → List ℕ → List ℕ → List ℕ → Answer (List ℕ)
 write_call extent c sequence words count snapshot log out = write extent c sequence words count snapshot log (length out)
 
-abbrev pub encode_call : Shape → Config → ℕ → List ℕ → List ℕ → List ℕ → List ℕ → Result (List ℕ)
+abbrev pub encode_call : Shape → Config → ℕ → List ℕ → List ℕ → List ℕ → List ℕ → Answer (List ℕ)
 encode_call shape c sequence words coords captions out = encode shape c sequence words coords captions (length out)
 
 -- ---- the playout host's delete frame: 29 bytes, or 0 and nothing written if the sequence is 0 or room is short

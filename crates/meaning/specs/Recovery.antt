@@ -1,8 +1,8 @@
 -- Recovery of a snapshot and the log beside it, without repair.
-use Rattle.std.specs.Prelude.{ℕ, suc, ◌-◌, cond, List, [], ◌∷◌, map, length, ltb}
+use Rattle.std.specs.Prelude.{ℕ, suc, ◌-◌, cond, List, [], ◌∷◌, map, length, ltb, Ok, Err}
 use Rattle.config.specs.Limits.{max_records, max_snapshot_bytes, max_log_bytes}
 use Rattle.config.specs.declared.Config.{Config}
-use Rattle.refusal.specs.Refusal.{Result, answer, refused}
+use Rattle.refusal.specs.Refusal.{Answer}
 use Rattle.refusal.specs.declared.Refusal.{Refusal}
 use Rattle.refusal.specs.declared.Refusal.TheVariants.{LogTooLong}
 use Rattle.meaning.specs.Replay.{State, Outcome, reached, stopped, Bounds, size, replay}
@@ -35,9 +35,9 @@ abbrev pub replay_log : ℕ → List ℕ → Snapshot → Recovery
 replay_log rows_lent log s =
     ended s (replay (row_kind s.config.dimensions) (bounds_for rows_lent) s.sequence s.rows (frames_of s.config log))
 
-abbrev pub with_snapshot : ℕ → List ℕ → Result Snapshot → Recovery
-with_snapshot rows_lent log (answer s) = replay_log rows_lent log s
-with_snapshot rows_lent log (refused why) = refused_snapshot why
+abbrev pub with_snapshot : ℕ → List ℕ → Answer Snapshot → Recovery
+with_snapshot rows_lent log (Ok s) = replay_log rows_lent log s
+with_snapshot rows_lent log (Err why) = refused_snapshot why
 
 -- 20 before everything, the snapshot next, the log last
 unfoldable pub recover : ℕ → List ℕ → List ℕ → Recovery

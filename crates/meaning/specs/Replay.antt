@@ -1,10 +1,10 @@
 -- Replay: what one operation, one frame and a list of frames do to a table of records. It looks at a record only through
 -- its `Kind`, so it means the same over rows, which the code keeps, and over records by value, which the promises speak of.
-use Rattle.std.specs.Prelude.{ℕ, suc, ◌+◌, Bool, true, false, not, cond, List, [], ◌∷◌, ◌++◌, length, ltb, leb, eqb}
+use Rattle.std.specs.Prelude.{ℕ, suc, ◌+◌, Bool, true, false, not, cond, List, [], ◌∷◌, ◌++◌, length, ltb, leb, eqb, Ok, Err}
 use Rattle.layout.specs.Layout.{snapshot_length}
 use Rattle.layout.specs.declared.Shape.{Shape}
 use Rattle.layout.specs.declared.Shape.TheVariants.{Single, Batch}
-use Rattle.refusal.specs.Refusal.{Result, answer, refused, ◌>>=◌, refuse}
+use Rattle.refusal.specs.Refusal.{Answer, ◌>>=◌, refuse}
 use Rattle.refusal.specs.declared.Refusal.{Refusal}
 use Rattle.refusal.specs.declared.Refusal.TheVariants.{TooFewRows, StorageLimits, InactiveDelete, GapAfterSnapshot}
 
@@ -71,14 +71,14 @@ finish (tail at) s = reached s at
 finish (bad why at) s = stopped why at
 
 -- a refusal names its frame's first byte
-abbrev pub onward : {A : Type 0} → ℕ → Result (State A) → (State A → Outcome A) → Outcome A
-onward start (answer s) next = next s
-onward start (refused why) next = stopped why start
+abbrev pub onward : {A : Type 0} → ℕ → Answer (State A) → (State A → Outcome A) → Outcome A
+onward start (Ok s) next = next s
+onward start (Err why) next = stopped why start
 
 -- a delete of an inactive ID: 29 in a single frame, nothing in a batch
-abbrev pub absent : {A : Type 0} → Shape → List A → Result (List A)
-absent Single records = refused InactiveDelete
-absent Batch records = answer records
+abbrev pub absent : {A : Type 0} → Shape → List A → Answer (List A)
+absent Single records = Err InactiveDelete
+absent Batch records = Ok records
 
 module _ {A : Type 0} (K : Kind A) where
   -- the record is live and bears this ID
@@ -104,36 +104,36 @@ module _ {A : Type 0} (K : Kind A) where
   size (r ∷ rs) = K.size_of r + size rs
 
   -- a put first marks the old node of its ID deleted, adds its size, then 28, then 19, then appends a node
-  unfoldable pub apply_put : Bounds → A → List A → Result (List A)
+  unfoldable pub apply_put : Bounds → A → List A → Answer (List A)
   apply_put bounds r records = do
     _ ← refuse StorageLimits (leb bounds.max_records (length records))
     _ ← refuse StorageLimits (ltb bounds.max_bytes (snapshot_length (size (mark (K.id_of r) records) + K.size_of r)))
     _ ← refuse TooFewRows (leb bounds.rows_lent (length records))
-    answer (mark (K.id_of r) records ++ (r ∷ []))
+    Ok (mark (K.id_of r) records ++ (r ∷ []))
 
   -- a delete marks the live node of its ID
-  unfoldable pub apply_remove : Shape → ℕ → List A → Result (List A)
-  apply_remove shape id records = cond (active id records) (answer (mark id records)) (absent shape records)
+  unfoldable pub apply_remove : Shape → ℕ → List A → Answer (List A)
+  apply_remove shape id records = cond (active id records) (Ok (mark id records)) (absent shape records)
 
-  abbrev pub apply_one : Bounds → Shape → Operation A → List A → Result (List A)
+  abbrev pub apply_one : Bounds → Shape → Operation A → List A → Answer (List A)
   apply_one bounds shape (put r) records = apply_put bounds r records
   apply_one bounds shape (remove id) records = apply_remove shape id records
 
   -- operations in order
-  unfoldable pub apply_all : Bounds → Shape → List (Operation A) → List A → Result (List A)
-  apply_all bounds shape [] records = answer records
+  unfoldable pub apply_all : Bounds → Shape → List (Operation A) → List A → Answer (List A)
+  apply_all bounds shape [] records = Ok records
   apply_all bounds shape (o ∷ os) records = apply_one bounds shape o records >>= apply_all bounds shape os
 
   -- a frame that comes after the snapshot: 27 where it is not the next, then its operations
-  unfoldable pub replay_frame : Bounds → Frame A → State A → Result (State A)
+  unfoldable pub replay_frame : Bounds → Frame A → State A → Answer (State A)
   replay_frame bounds f s = do
     _ ← refuse GapAfterSnapshot (not (eqb f.sequence (s.sequence + 1)))
     records ← apply_all bounds f.shape f.operations s.records
-    answer (play f s records)
+    Ok (play f s records)
 
   -- one frame: at or below the snapshot's sequence it counts as skipped, otherwise it is replayed
-  unfoldable pub step : Bounds → ℕ → Frame A → State A → Result (State A)
-  step bounds snapshot f s = cond (leb f.sequence snapshot) (answer (skip s)) (replay_frame bounds f s)
+  unfoldable pub step : Bounds → ℕ → Frame A → State A → Answer (State A)
+  step bounds snapshot f s = cond (leb f.sequence snapshot) (Ok (skip s)) (replay_frame bounds f s)
 
   -- all frames in order, then the log's end
   unfoldable pub run : Bounds → ℕ → List (Frame A) → End → State A → Outcome A

@@ -1,6 +1,6 @@
 -- Lookup by ID, and the views that give a part of the snapshot or of the log.
-use Rattle.std.specs.Prelude.{ℕ, suc, cond, List, [], ◌∷◌, ltb, leb}
-use Rattle.refusal.specs.Refusal.{Result, answer, refused, ◌>>=◌, refuse}
+use Rattle.std.specs.Prelude.{ℕ, suc, cond, List, [], ◌∷◌, ltb, leb, Ok, Err}
+use Rattle.refusal.specs.Refusal.{Answer, ◌>>=◌, refuse}
 use Rattle.refusal.specs.declared.Refusal.TheVariants.{WrongDimensions, NoSuchNode, RowDoesNotFit}
 use Rattle.config.specs.Limits.{min_dimensions, max_dimensions}
 use Rattle.rows.specs.Lent.{rows_lent_plain}
@@ -23,30 +23,30 @@ find_from id k [] = none
 find_from id k (r ∷ rs) = cond (live_as (row_kind 0) id r) (node k) (find_from id (suc k) rs)
 
 -- a count above the rows lent is 30
-unfoldable pub lookup : List ℕ → ℕ → ℕ → Result Lookup
+unfoldable pub lookup : List ℕ → ℕ → ℕ → Answer Lookup
 lookup words count id = do
   _ ← refuse NoSuchNode (ltb (rows_lent_plain words) count)
-  answer (find_from id 0 (rows_in count words))
+  Ok (find_from id 0 (rows_in count words))
 
 -- the row of a node: d out of range is 6, then 30
-unfoldable pub row_for : ℕ → List ℕ → ℕ → ℕ → Result Row
+unfoldable pub row_for : ℕ → List ℕ → ℕ → ℕ → Answer Row
 row_for d words count n = do
   _ ← refuse WrongDimensions (ltb d min_dimensions)
   _ ← refuse WrongDimensions (ltb max_dimensions d)
   _ ← refuse NoSuchNode (leb count n)
   _ ← refuse NoSuchNode (ltb (rows_lent_plain words) count)
-  answer (row_at words n)
+  Ok (row_at words n)
 
 -- 31 for a part that is not inside its source
-unfoldable pub part_for : Shown → ℕ → List ℕ → List ℕ → Row → Result Part
+unfoldable pub part_for : Shown → ℕ → List ℕ → List ℕ → Row → Answer Part
 part_for shown d snapshot log r = do
   _ ← refuse RowDoesNotFit (outside snapshot log (shown_part shown d r))
-  answer (shown_part shown d r)
+  Ok (shown_part shown d r)
 
-unfoldable pub view : Shown → ℕ → List ℕ → ℕ → ℕ → List ℕ → List ℕ → Result Part
+unfoldable pub view : Shown → ℕ → List ℕ → ℕ → ℕ → List ℕ → List ℕ → Answer Part
 view shown d words count n snapshot log = row_for d words count n >>= part_for shown d snapshot log
 
 -- the part that a view gives; the call beside it tells the number, 0 where nothing is refused (`number_told`)
-abbrev pub given : Result Part → Part
-given (answer p) = p
-given (refused why) = nothing
+abbrev pub given : Answer Part → Part
+given (Ok p) = p
+given (Err why) = nothing

@@ -1,9 +1,9 @@
 -- The snapshot writer over a state that is handed in: its refusals in document 01's order, the bytes it writes, and the output after.
-use Rattle.std.specs.Prelude.{ℕ, Bool, true, false, not, cond, List, [], ◌∷◌, map, ltb, eqb}
+use Rattle.std.specs.Prelude.{ℕ, Bool, true, false, not, cond, List, [], ◌∷◌, map, ltb, eqb, Ok}
 use Rattle.config.specs.Limits.{max_snapshot_bytes}
 use Rattle.config.specs.declared.Config.{Config}
 use Rattle.rows.specs.Lent.{rows_lent_plain}
-use Rattle.refusal.specs.Refusal.{Result, answer, ◌>>=◌, refuse}
+use Rattle.refusal.specs.Refusal.{Answer, ◌>>=◌, refuse}
 use Rattle.refusal.specs.declared.Refusal.TheVariants.{NoSuchNode, RowDoesNotFit, TooLarge, OutputTooShort}
 use Rattle.meaning.specs.Replay.{size}
 use Rattle.layout.specs.Layout.{snapshot_length}
@@ -37,30 +37,30 @@ written Full rows = rows
 written Compacted rows = live_rows rows
 
 -- the state that is handed in: 30 exactly if the count exceeds the rows lent, then 31 for any row below the count
-unfoldable pub state_rows : Config → List ℕ → ℕ → List ℕ → List ℕ → Result (List Row)
+unfoldable pub state_rows : Config → List ℕ → ℕ → List ℕ → List ℕ → Answer (List Row)
 state_rows c words count snapshot log = do
   _ ← refuse NoSuchNode (ltb (rows_lent_plain words) count)
   _ ← refuse RowDoesNotFit (any_misfit c snapshot log (rows_in count words))
-  answer (rows_in count words)
+  Ok (rows_in count words)
 
 -- the length of a written snapshot
 abbrev pub file_length : ℕ → List Row → ℕ
 file_length d rows = snapshot_length (size (row_kind d) rows)
 
 -- 34 exactly if the file would be over its limit, then 32; coordinates and captions are copied unchecked, in node order
-unfoldable pub file_of_rows : Config → ℕ → List ℕ → List ℕ → ℕ → List Row → Result (List ℕ)
+unfoldable pub file_of_rows : Config → ℕ → List ℕ → List ℕ → ℕ → List Row → Answer (List ℕ)
 file_of_rows c sequence snapshot log room rows = do
   _ ← refuse TooLarge (ltb max_snapshot_bytes (file_length c.dimensions rows))
   _ ← refuse OutputTooShort (ltb room (file_length c.dimensions rows))
-  answer (file_of c sequence (map (seen c.dimensions snapshot log) rows))
+  Ok (file_of c sequence (map (seen c.dimensions snapshot log) rows))
 
 -- once the settings are valid
-unfoldable pub write_valid : Extent → Config → ℕ → List ℕ → ℕ → List ℕ → List ℕ → ℕ → Result (List ℕ)
+unfoldable pub write_valid : Extent → Config → ℕ → List ℕ → ℕ → List ℕ → List ℕ → ℕ → Answer (List ℕ)
 write_valid extent c sequence words count snapshot log room = do
   rows ← state_rows c words count snapshot log
   file_of_rows c sequence snapshot log room (written extent rows)
 
-unfoldable pub write : Extent → Config → ℕ → List ℕ → ℕ → List ℕ → List ℕ → ℕ → Result (List ℕ)
+unfoldable pub write : Extent → Config → ℕ → List ℕ → ℕ → List ℕ → List ℕ → ℕ → Answer (List ℕ)
 write extent c sequence words count snapshot log room = do
   _ ← validate c
   write_valid extent c sequence words count snapshot log room

@@ -13,6 +13,7 @@ pub extern "C" fn measure_crc(bytes: &[u8]) -> u32
 }
 
 // The same from parts of `size` bytes, as a caller has it that reads a file piece by piece.
+#[tactic(auto, unfolding(crc32::specs::Crc::crc_of))]
 #[unsafe(no_mangle)]
 pub extern "C" fn measure_crc_parts(bytes: &[u8], size: usize) -> u32
     ensures { result ≡ crc_of bytes.now }
@@ -23,18 +24,16 @@ pub extern "C" fn measure_crc_parts(bytes: &[u8], size: usize) -> u32
     crc32::finish(parts(bytes, size))
 }
 
+#[tactic(auto, using(crc32::proofs::Bytes::bytes_in_append), unfolding(crc32::specs::Crc::bytes_in))]
 fn parts(bytes: &[u8], size: usize) -> u32
     requires { 0 < size }
     ensures { result ≡ bytes_in all_ones bytes.now }
 {
     let mut c = crc32::start();
-    let mut i: usize = 0;
-    while size < bytes.len() - i {
-        let e = i + size;
-        c = crc32::part(c, &bytes[i..e]);
-        i = e;
+    for part in bytes.chunks(size) {
+        c = crc32::part(c, part);
     }
-    crc32::part(c, &bytes[i..])
+    c
 }
 
 // The xor of the CRCs of all whole runs of `size` bytes, with the tables made once: what a caller with many frames pays.
@@ -52,11 +51,8 @@ fn runs(t: &[u32; 4096], bytes: &[u8], size: usize) -> u32
     requires size_nonzero { 0 < size }
 {
     let mut sum: u32 = 0;
-    let mut i: usize = 0;
-    while size <= bytes.len() - i {
-        let e = i + size;
-        sum = sum ^ crc32::crc32_with(t, &bytes[i..e]);
-        i = e;
+    for run in bytes.chunks_exact(size) {
+        sum ^= crc32::crc32_with(t, run);
     }
     sum
 }

@@ -2,13 +2,13 @@
 #![tactic(auto)]
 
 use config::Config;
-use refusal::Written;
+use refusal::Refusal;
 
 // A refusal has the highest bit.
-fn told(w: Written) -> u64 {
+fn told(w: Result<usize, Refusal>) -> u64 {
     match w {
-        Written::Bytes(n) => n as u64,
-        Written::Refused(r) => 9_223_372_036_854_775_808 + (r.number() as u64),
+        Ok(n) => n as u64,
+        Err(r) => 9_223_372_036_854_775_808 + (r.number() as u64),
     }
 }
 

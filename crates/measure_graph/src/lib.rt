@@ -2,7 +2,6 @@
 #![tactic(auto)]
 
 use config::{Config, Metric};
-use graph::{Entry, ReadCache};
 use rows::Node;
 
 // `refused` is 0, or the refusal, and then the rest is 0. No entry is all ones.
@@ -15,11 +14,8 @@ pub struct Told {
     pub rng_state: u64,
 }
 
-fn entry_number(entry: Entry) -> u64 {
-    match entry {
-        Entry::Node(n) => n.0 as u64,
-        Entry::None => 0xffff_ffff_ffff_ffff,
-    }
+fn entry_number(entry: Option<Node>) -> u64 {
+    entry.map_or(u64::MAX, |node| u64::from(node.0))
 }
 
 #[unsafe(no_mangle)]
@@ -42,16 +38,13 @@ pub extern "C" fn measure_read_cache(
         metric: Metric::SquaredL2,
     };
     match graph::read_cache(bytes, config, crc, sequence, count, starts) {
-        ReadCache::Accepted(info) => {
-            let entry = info.entry;
-            Told {
-                refused: 0,
-                nodes: info.nodes as u64,
-                entry: entry_number(entry),
-                rng_state: info.rng_state,
-            }
-        }
-        ReadCache::Refused(why) => Told {
+        Ok(info) => Told {
+            refused: 0,
+            nodes: info.nodes as u64,
+            entry: entry_number(info.entry),
+            rng_state: info.rng_state,
+        },
+        Err(why) => Told {
             refused: why.number() as u64,
             nodes: 0,
             entry: 0,
@@ -84,7 +77,7 @@ pub extern "C" fn measure_neighbours(
 ) -> usize {
     let part = graph::neighbours(cache, starts, count, Node(node), level);
     if out.len() < part.len() {
-        return 0xffff_ffff_ffff_ffff;
+        return usize::MAX;
     }
     fields::copy(out, part);
     part.len()

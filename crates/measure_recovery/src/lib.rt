@@ -1,7 +1,7 @@
 // Recovery behind a C name, for bench/ to time.
 #![tactic(auto)]
 
-use recovery::Recovery;
+use recovery::NotRecovered;
 use refusal::Refusal;
 
 // `refused` is 0, or the refusal, and then the rest is 0.
@@ -28,7 +28,7 @@ pub extern "C" fn measure_recover(
     active: &mut [u32],
 ) -> Told {
     match recovery::recover(snapshot, log, rows, active) {
-        Recovery::Recovered(info) => Told {
+        Ok(info) => Told {
             refused: 0,
             sequence: info.sequence,
             crc: info.crc as u64,
@@ -40,8 +40,7 @@ pub extern "C" fn measure_recover(
             tail: info.tail as u64,
             size: info.size as u64,
         },
-        Recovery::RefusedSnapshot(why) => refused(why),
-        Recovery::RefusedLog(why, _) => refused(why),
+        Err(NotRecovered::Snapshot(why) | NotRecovered::Log(why, _)) => refused(why),
     }
 }
 

@@ -2,8 +2,6 @@
 #![tactic(auto)]
 
 use config::Config;
-use refusal::Written;
-use snapshot::ReadSnapshot;
 
 // `refused` is 0, or the refusal, and then the rest is 0.
 #[repr(C)]
@@ -24,7 +22,7 @@ pub extern "C" fn measure_read_snapshot(
     active: &mut [u32],
 ) -> Told {
     match snapshot::read_snapshot(bytes, rows, active) {
-        ReadSnapshot::Accepted(info) => Told {
+        Ok(info) => Told {
             refused: 0,
             sequence: info.sequence,
             crc: info.crc as u64,
@@ -32,7 +30,7 @@ pub extern "C" fn measure_read_snapshot(
             active: info.active as u64,
             size: info.size as u64,
         },
-        ReadSnapshot::Refused(why) => Told {
+        Err(why) => Told {
             refused: why.number() as u64,
             sequence: 0,
             crc: 0,
@@ -55,7 +53,7 @@ pub extern "C" fn measure_write_snapshot<'a>(
     out: &mut [u8],
 ) -> u64 {
     match writer::write_snapshot(Config::new(d), sequence, rows, count, snapshot, log, out) {
-        Written::Bytes(n) => n as u64,
-        Written::Refused(why) => 9_223_372_036_854_775_808 + (why.number() as u64),
+        Ok(n) => n as u64,
+        Err(why) => 9_223_372_036_854_775_808 + (why.number() as u64),
     }
 }

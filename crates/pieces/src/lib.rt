@@ -20,6 +20,7 @@ const PIECE: usize = 131_072;
 const STRETCH: usize = 32_768;
 
 // Internal: no byte has gone in.
+#[tactic(auto, unfolding(crc32::specs::Crc::bytes_in))]
 pub fn none() -> Sum
     ensures by_index { (s : List ℕ) → Sums s result }
     ensures upto_value { result.upto ≡ 0 }
@@ -31,6 +32,7 @@ pub fn none() -> Sum
 }
 
 // The bytes up to `to` go in.
+#[tactic(auto, using(crate::proofs::SumLaws::sum_onward))]
 fn onward(sum: Sum, s: &[u8], to: usize) -> Sum
     requires sums { Sums s.now sum }
     requires upto_le_to { sum.upto ≤ to }
@@ -99,6 +101,7 @@ pub fn ahead(sum: Sum, s: &[u8], end: usize, at: usize) -> Sum
 }
 
 // Internal: as `ahead`. The CRC of the first `end` bytes.
+#[tactic(auto, unfolding(crc32::specs::Crc::crc_of))]
 pub fn finish(sum: Sum, s: &[u8], end: usize) -> u32
     requires sums { Sums s.now sum }
     requires upto_le_end { sum.upto ≤ end }

@@ -1,8 +1,8 @@
 -- What `specs/CaptionsOfDeleted.antt` says of two snapshots that differ in the captions of deleted records.
+use Rattle.std.specs.Prelude.{Ok}
 use Prim.Native.Nat.{ℕ}
 use mathlib.Core.Path.{◌≡◌, refl, sym, ap, ◌∙◌, subst, transport}
 use mathlib.Core.List.{List}
-use Rattle.refusal.specs.Refusal.{answer}
 use Rattle.fields.specs.Fields.{Bytes}
 use Rattle.rows.specs.Lent.{rows_lent}
 use Rattle.meaning.specs.Recovery as Meant
@@ -10,13 +10,10 @@ use Rattle.meaning.specs.Recovery.{recover}
 use Rattle.meaning.specs.Snapshot.{Snapshot, read_snapshot}
 use Rattle.meaning.specs.Calls.{RecoveryTold, read_call}
 use Rattle.snapshot.specs.declared.SnapshotInfo.{SnapshotInfo}
-use Rattle.snapshot.specs.declared.ReadSnapshot.TheVariants as Snapshots
 use Rattle.theorems.specs.DeletedCaptions.{DifferInDeleted, without_places, SameButPlaces}
 use Rattle.theorems.proofs.RecoverAlike.{deleted_captions_answer, deleted_captions_told, deleted_captions_records}
 use Rattle.theorems.proofs.TablesAlike.{deleted_captions_tables}
-use Rattle.recovery.specs.declared.Recovery.{Recovery}
-use Rattle.recovery.specs.Told.{info_of, recovery_answer}
-use Rattle.recovery.specs.declared.Recovery.TheVariants as Recoveries
+use Rattle.recovery.specs.Told.{Recovery, info_of, recovery_answer}
 use Rattle.promises.specs.Recover.{RecoverMeets, Recovers}
 use Rattle.promises.specs.Store.{ReadSnapshotMeets}
 use Rattle.promises.specs.CaptionsOfDeleted.{without_crc, SameButCrcAndPlaces, CaptionsOfDeleted}
@@ -28,14 +25,14 @@ IsRecovered (Meant.recovered r) = Unit
 IsRecovered (Meant.refused_snapshot why) = ⊥
 IsRecovered (Meant.refused_log why at) = ⊥
 
-module _ (lent : ℕ) (s s' log : List ℕ) (x y : Snapshot) (k : DifferInDeleted s s') (e : read_snapshot lent s ≡ answer x) (e' : read_snapshot lent s' ≡ answer y) where
+module _ (lent : ℕ) (s s' log : List ℕ) (x y : Snapshot) (k : DifferInDeleted s s') (e : read_snapshot lent s ≡ Ok x) (e' : read_snapshot lent s' ≡ Ok y) where
   same_answer : without_crc (recovery_answer log (recover lent s log)) ≡ without_crc (recovery_answer log (recover lent s' log))
   same_answer = go (recover lent s log) (recover lent s' log) refl refl (deleted_captions_answer lent s s' log x y k e e')
     where
       go : (a b : Meant.Recovery) → recover lent s log ≡ a → recover lent s' log ≡ b → without_places a ≡ without_places b
           → without_crc (recovery_answer log a) ≡ without_crc (recovery_answer log b)
       go (Meant.recovered r) (Meant.recovered r') p q h =
-          ap (λ (t : RecoveryTold). Recoveries.Recovered (info_of t)) (deleted_captions_told lent s s' log x y r r' k e e' p q).0
+          ap (λ (t : RecoveryTold). Ok (info_of t)) (deleted_captions_told lent s s' log x y r r' k e e' p q).0
       go (Meant.recovered r) (Meant.refused_snapshot why) p q h = absurd (subst IsRecovered h tt)
       go (Meant.recovered r) (Meant.refused_log why at) p q h = absurd (subst IsRecovered h tt)
       go (Meant.refused_snapshot why) (Meant.recovered r) p q h = absurd (subst IsRecovered (sym h) tt)
@@ -52,7 +49,7 @@ called {s} {log} {words} {entries} {r} {rows} {active} m = record { rows = words
 
 captions : (s s' log words entries : List ℕ) → Bytes s → Bytes s' → Bytes log → DifferInDeleted s s'
     → (i i' : SnapshotInfo) (x x' y y' : List ℕ)
-    → ReadSnapshotMeets s words entries (Snapshots.Accepted i) x y → ReadSnapshotMeets s' words entries (Snapshots.Accepted i') x' y'
+    → ReadSnapshotMeets s words entries (Ok i) x y → ReadSnapshotMeets s' words entries (Ok i') x' y'
     → (r r' : Recovery) (rows rows' active active' : List ℕ)
     → RecoverMeets s log words entries r rows active → RecoverMeets s' log words entries r' rows' active'
     → SameButCrcAndPlaces s s' log r r' rows rows' active active'

@@ -1,4 +1,5 @@
 -- What `specs/DeleteFrame.antt` says of the playout host's delete.
+use Rattle.std.specs.Prelude.{Ok, Option, Some, None, Err}
 use Prim.Native.Nat.{ℕ, zero, suc, ◌≤◌, ◌<◌, ◌^◌}
 use native.Mathlib.Omega.{arith}
 use mathlib.Core.Path.{◌≡◌, refl, sym, ap, ◌∙◌, subst}
@@ -8,7 +9,7 @@ use mathlib.Core.List.{List, [], ◌∷◌, ◌++◌}
 use lib.Dec.{ltb, eqb}
 use lib.ListN.{length, take, length-append}
 use borrow.Author.Tests.{ltb-false, eqb-false}
-use Rattle.refusal.specs.Refusal.{answer, ◌>>=◌, refuse}
+use Rattle.refusal.specs.Refusal.{◌>>=◌, refuse, Answer}
 use Rattle.refusal.specs.declared.Refusal.TheVariants.{NoSuchNode}
 use Rattle.config.specs.declared.Config.{Config}
 use Rattle.layout.specs.declared.Shape.TheVariants.{Single}
@@ -26,9 +27,7 @@ use Rattle.meaning.specs.Encoder.{delete_frame}
 use Rattle.meaning.specs.Tables.{rows_in}
 use Rattle.meaning.specs.Views.{Lookup, find_from, lookup}
 use Rattle.meaning.specs.Calls.{recover_tables, delete_refused}
-use Rattle.views.specs.declared.Found.{Found}
-use Rattle.views.specs.declared.Found.TheVariants as Founds
-use Rattle.views.specs.Told.{found, found_told}
+use Rattle.views.specs.Told.{found_told}
 use Rattle.theorems.specs.FrameLists.{last_sequence}
 use Rattle.theorems.specs.FrameRows.{Follows}
 use Rattle.theorems.proofs.TableRows.{rows_of_table}
@@ -112,10 +111,10 @@ module _ (sequence id : ℕ) (out after : List ℕ) (meets : HostDeleteMeets seq
       }
 
 -- ---- an ID that `lookup` finds
-abbrev IsNode : Found → Type 0
-IsNode (Founds.Node n) = Unit
-IsNode Founds.None = ⊥
-IsNode (Founds.Refused why) = ⊥
+abbrev IsNode : Answer (Option Node) → Type 0
+IsNode (Ok (Some n)) = Unit
+IsNode (Ok None) = ⊥
+IsNode (Err why) = ⊥
 
 -- of an ID that is not live, lookup finds no node
 pub not_live : (d id k : ℕ) (rows : List Row) → active (row_kind d) id rows ≡ false → find_from id k rows ≡ Lookup.none
@@ -129,20 +128,20 @@ not_live d id k (r ∷ rows) e = go (live_as (row_kind 0) id r) e (not_live d id
     go false e rest = rest e
 
 -- an ID that lookup finds is live among the rows in the words
-pub lookup_live : (d : ℕ) (words : List ℕ) (count : ℕ) (id : Id) (node : Node) → LookupMeets words count id (Founds.Node node)
+pub lookup_live : (d : ℕ) (words : List ℕ) (count : ℕ) (id : Id) (node : Node) → LookupMeets words count id (Ok (Some node))
     → active (row_kind d) id.0 (rows_in count words) ≡ true
 unfolding lookup
 lookup_live d words count id node m = go (ltb (rows_lent_plain words) count) (active (row_kind d) id.0 (rows_in count words)) refl m.result_is
   where
     go : (large live : Bool) → active (row_kind d) id.0 (rows_in count words) ≡ live
-        → Founds.Node node ≡ found_told (refuse NoSuchNode large >>= λ _. answer (find_from id.0 0 (rows_in count words)))
+        → Ok (Some node) ≡ found_told (refuse NoSuchNode large >>= λ _. Ok (find_from id.0 0 (rows_in count words)))
         → active (row_kind d) id.0 (rows_in count words) ≡ true
     go true live e h = absurd (subst IsNode h tt)
     go false true e h = e
-    go false false e h = absurd (subst IsNode (h ∙ ap found (not_live d id.0 0 (rows_in count words) e)) tt)
+    go false false e h = absurd (subst IsNode (h ∙ ap (λ (l : Lookup). found_told (Ok l)) (not_live d id.0 0 (rows_in count words) e)) tt)
 
 found_is_live : (words active' snapshot log : List ℕ) (r : Recovered) → Bytes snapshot → Bytes log → recover (rows_lent words active') snapshot log ≡ recovered r
-    → (id : Id) (node : Node) → LookupMeets (recover_tables words active' (recovered r)).rows (record_count r) id (Founds.Node node)
+    → (id : Id) (node : Node) → LookupMeets (recover_tables words active' (recovered r)).rows (record_count r) id (Ok (Some node))
     → active (row_kind r.config.dimensions) id.0 (rows_of r) ≡ true
 found_is_live words active' snapshot log r bs bl given id node m =
     subst (λ (rows : List Row). active (row_kind r.config.dimensions) id.0 rows ≡ true)

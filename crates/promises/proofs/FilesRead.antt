@@ -1,12 +1,12 @@
 -- What `specs/ReadAndWritten.antt` says of the reader and the writer together.
+use Rattle.std.specs.Prelude.{Ok, Err}
 use Prim.Native.Nat.{ℕ, ◌≤◌, suc, ◌+◌}
 use native.Mathlib.Omega.{arith}
 use mathlib.Core.Path.{◌≡◌, refl, sym, ap, ◌∙◌, subst, transport}
 use mathlib.Core.Bool.{cond}
 use mathlib.Core.List.{List, [], ◌∷◌, ◌++◌, map}
 use lib.ListN.{length, length-map, take}
-use Rattle.refusal.specs.declared.Written.TheVariants as Writes
-use Rattle.refusal.specs.Refusal.{Result, answer, refused}
+use Rattle.refusal.specs.Refusal.{Answer}
 use Rattle.crc32.specs.Crc.{crc_of}
 use Rattle.fields.specs.Fields.{Bytes}
 use Rattle.fields.proofs.Numbers.{Bytes-take}
@@ -25,8 +25,6 @@ use Rattle.meaning.specs.File.{record_bytes, body_bytes, file_of}
 use Rattle.meaning.specs.Recovery.{Recovered, recovered, recover, live_count, rows_of, records_of, record_count, total_size}
 use Rattle.meaning.specs.Calls.{read_call, read_tables}
 use Rattle.snapshot.specs.declared.SnapshotInfo.{SnapshotInfo}
-use Rattle.snapshot.specs.declared.ReadSnapshot.{ReadSnapshot}
-use Rattle.snapshot.specs.declared.ReadSnapshot.TheVariants as Snapshots
 use Rattle.snapshot.specs.Told.{read_told}
 use Rattle.theorems.specs.Storable.{Sourced}
 use Rattle.theorems.specs.FileRows.{file_rows}
@@ -45,29 +43,29 @@ use Rattle.promises.proofs.FilesWritten.{file_at_the_cut}
 
 -- ---- read, then written
 -- a snapshot that is accepted, and what is told of it
-pub record Accepts (given : Result Snapshot) (info : SnapshotInfo) : Type 0 where
+pub record Accepts (given : Answer Snapshot) (info : SnapshotInfo) : Type 0 where
   pub snapshot : Snapshot
-  pub is : given ≡ answer snapshot
+  pub is : given ≡ Ok snapshot
   settings : info.config ≡ snapshot.config
   sequence : info.sequence ≡ snapshot.sequence
   records : info.records ≡ length snapshot.rows
 
-abbrev info_or : SnapshotInfo → ReadSnapshot → SnapshotInfo
-info_or other (Snapshots.Accepted info) = info
-info_or other (Snapshots.Refused why) = other
+abbrev info_or : SnapshotInfo → Answer SnapshotInfo → SnapshotInfo
+info_or other (Ok info) = info
+info_or other (Err why) = other
 
-abbrev IsAccepted : ReadSnapshot → Type 0
-IsAccepted (Snapshots.Accepted info) = Unit
-IsAccepted (Snapshots.Refused why) = ⊥
+abbrev IsAccepted : Answer SnapshotInfo → Type 0
+IsAccepted (Ok info) = Unit
+IsAccepted (Err why) = ⊥
 
-pub accepts : (given : Result Snapshot) (info : SnapshotInfo) → Snapshots.Accepted info ≡ read_told given → Accepts given info
-accepts (answer S) info e =
+pub accepts : (given : Answer Snapshot) (info : SnapshotInfo) → Ok info ≡ read_told given → Accepts given info
+accepts (Ok S) info e =
     let same = ap (info_or info) e in
     record { snapshot = S; is = refl; settings = ap (λ i. i.config) same; sequence = ap (λ i. i.sequence) same; records = ap (λ i. i.records) same }
-accepts (refused why) info e = absurd (subst IsAccepted e tt)
+accepts (Err why) info e = absurd (subst IsAccepted e tt)
 
 -- the cut before the first frame
-abbrev before_the_first : (lent : ℕ) (snapshot log : List ℕ) (S : Snapshot) → read_snapshot lent snapshot ≡ answer S → Cut lent snapshot log
+abbrev before_the_first : (lent : ℕ) (snapshot log : List ℕ) (S : Snapshot) → read_snapshot lent snapshot ≡ Ok S → Cut lent snapshot log
 before_the_first lent snapshot log S e =
     record {
       accepted = S;
@@ -82,14 +80,14 @@ before_the_first lent snapshot log S e =
     }
 
 pub read_then_written : (words active snapshot : List ℕ) → Bytes snapshot
-    → (info : SnapshotInfo) (rows' active' : List ℕ) → ReadSnapshotMeets snapshot words active (Snapshots.Accepted info) rows' active'
-    → (lent_log : List ℕ) (n : ℕ) (out after : List ℕ) → WriteMeets info.config info.sequence rows' info.records snapshot lent_log out (Writes.Bytes n) after
+    → (info : SnapshotInfo) (rows' active' : List ℕ) → ReadSnapshotMeets snapshot words active (Ok info) rows' active'
+    → (lent_log : List ℕ) (n : ℕ) (out after : List ℕ) → WriteMeets info.config info.sequence rows' info.records snapshot lent_log out (Ok n) after
     → (log : List ℕ) → Bytes log
     → compared (take n after) log (recover (rows_lent words active) (take n after) log) ≡ compared snapshot log (recover (rows_lent words active) snapshot log)
 read_then_written words active snapshot bs info rows' active' read lent_log n out after wrote log bl =
     let a = accepts (read_call words active snapshot) info read.result_is in
     (file_at_the_cut words active snapshot log (before_the_first (rows_lent words active) snapshot log a.snapshot a.is) bs bl lent_log n out after
-    (transport (λ i. WriteMeets (a.settings i) (a.sequence i) ((read.rows_are ∙ ap (λ x. (read_tables words active x).rows) a.is) i) (a.records i) snapshot lent_log out (Writes.Bytes n) after) wrote)
+    (transport (λ i. WriteMeets (a.settings i) (a.sequence i) ((read.rows_are ∙ ap (λ x. (read_tables words active x).rows) a.is) i) (a.records i) snapshot lent_log out (Ok n) after) wrote)
     ).beside_the_whole_log
 
 -- ---- written, then read
@@ -114,12 +112,12 @@ module _ (lent : ℕ) (snapshot log : List ℕ) (s : Recovered) (bs : Bytes snap
       let rs = map (seen c.dimensions snapshot log) (rows_of s) in
       record { config = c; crc = crc_of (body_bytes c s.state.sequence rs); sequence = s.state.sequence; rows = file_rows (header_length Two) rs }
 
-  full_read_back : (lent' : ℕ) → record_count s ≤ lent' → read_snapshot lent' (full_snapshot snapshot log s) ≡ answer (Read s.config)
+  full_read_back : (lent' : ℕ) → record_count s ≤ lent' → read_snapshot lent' (full_snapshot snapshot log s) ≡ Ok (Read s.config)
   full_read_back lent' enough =
       let n = length-map (rows_of s) (seen a.read.config.dimensions snapshot log) in
       subst
       (λ (c : Config). length (file_of c s.state.sequence (map (seen c.dimensions snapshot log) (rows_of s))) ≤ max_snapshot_bytes
-      → read_snapshot lent' (file_of c s.state.sequence (map (seen c.dimensions snapshot log) (rows_of s))) ≡ answer (Read c))
+      → read_snapshot lent' (file_of c s.state.sequence (map (seen c.dimensions snapshot log) (rows_of s))) ≡ Ok (Read c))
       (sym a.same_config) (λ k. file_back lent' a.read.config s.state.sequence _ (standing_storable lent snapshot log s bs bl a k) (omega arith)) short
 
   same_size : size (row_kind s.config.dimensions) (Read s.config).rows ≡ total_size s
@@ -134,7 +132,7 @@ module _ (lent : ℕ) (snapshot log : List ℕ) (s : Recovered) (bs : Bytes snap
       ∙ size_seen c snapshot log (rows_of s) sourced)
 
   -- what reading it tells
-  told_of_full : (lent' : ℕ) → record_count s ≤ lent' → read_told (read_snapshot lent' (full_snapshot snapshot log s)) ≡ Snapshots.Accepted (told_of_state snapshot log s)
+  told_of_full : (lent' : ℕ) → record_count s ≤ lent' → read_told (read_snapshot lent' (full_snapshot snapshot log s)) ≡ Ok (told_of_state snapshot log s)
   told_of_full lent' enough =
       let d = s.config.dimensions in
       let rs = records_of snapshot log s in
@@ -143,7 +141,7 @@ module _ (lent : ℕ) (snapshot log : List ℕ) (s : Recovered) (bs : Bytes snap
       let sizes = same_size in
       ap read_told (full_read_back lent' enough)
       ∙ λ i.
-      Snapshots.Accepted
+      Ok
       (record {
         config = s.config;
         crc = crc_of (body_bytes s.config s.state.sequence rs);
@@ -154,10 +152,10 @@ module _ (lent : ℕ) (snapshot log : List ℕ) (s : Recovered) (bs : Bytes snap
       })
 
 pub written_then_read : (words active snapshot log : List ℕ) (cut : Cut (rows_lent words active) snapshot log) → Bytes snapshot → Bytes log
-    → (more : List ℕ) (n : ℕ) (out after : List ℕ) → WritesState words active (there cut) snapshot (take (place cut) log ++ more) out (Writes.Bytes n) after
+    → (more : List ℕ) (n : ℕ) (out after : List ℕ) → WritesState words active (there cut) snapshot (take (place cut) log ++ more) out (Ok n) after
     → (lent_rows lent_active : List ℕ) → record_count (there cut) ≤ rows_lent lent_rows lent_active
-    → (r : ReadSnapshot) (rows' active' : List ℕ) → ReadSnapshotMeets (take n after) lent_rows lent_active r rows' active'
-    → r ≡ Snapshots.Accepted (told_of_state snapshot (take (place cut) log) (there cut))
+    → (r : Answer SnapshotInfo) (rows' active' : List ℕ) → ReadSnapshotMeets (take n after) lent_rows lent_active r rows' active'
+    → r ≡ Ok (told_of_state snapshot (take (place cut) log) (there cut))
 written_then_read words active snapshot log cut bs bl more n out after wrote lent_rows lent_active enough r rows' active' read =
     let file = file_at_the_cut words active snapshot log cut bs bl more n out after wrote in
     read.result_is

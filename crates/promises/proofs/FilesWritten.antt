@@ -1,4 +1,5 @@
 -- What `specs/WrittenFile.antt` says of a written file.
+use Rattle.std.specs.Prelude.{Ok, Err}
 use Prim.Native.Nat.{ℕ}
 use mathlib.Core.Path.{◌≡◌, refl, sym, ap, ◌∙◌, subst}
 use mathlib.Core.Logic.{inl, inr}
@@ -7,9 +8,7 @@ use mathlib.Core.List.{List, ◌++◌, map}
 use lib.Dec.{ltb}
 use lib.ListN.{length, take, drop, take-append-drop}
 use Rattle.refusal.specs.declared.Refusal.TheVariants.{TooLarge, OutputTooShort}
-use Rattle.refusal.specs.declared.Written.{Written}
-use Rattle.refusal.specs.declared.Written.TheVariants as Writes
-use Rattle.refusal.specs.Refusal.{answer, refuse, ◌>>=◌, written_told}
+use Rattle.refusal.specs.Refusal.{refuse, ◌>>=◌, written_told, Answer}
 use Rattle.config.specs.Limits.{max_snapshot_bytes}
 use Rattle.config.specs.declared.Config.{Config}
 use Rattle.layout.specs.Layout.{snapshot_length}
@@ -31,7 +30,7 @@ use Rattle.promises.proofs.Outputs.{written_holds}
 
 pub file_at_the_cut : (words active snapshot log : List ℕ) (cut : Cut (rows_lent words active) snapshot log) → Bytes snapshot → Bytes log
     → (more : List ℕ) (n : ℕ) (out after : List ℕ)
-    → WritesState words active (there cut) snapshot (take (place cut) log ++ more) out (Writes.Bytes n) after
+    → WritesState words active (there cut) snapshot (take (place cut) log ++ more) out (Ok n) after
     → FileAtTheCut words active snapshot log cut n out after
 file_at_the_cut words active snapshot log cut bs bl more n out after meets =
     let h = written_holds _ n out after meets.result_is meets.output_is in
@@ -44,13 +43,13 @@ file_at_the_cut words active snapshot log cut bs bl more n out after meets =
       without_the_front = written_without_the_front words active snapshot log cut bs bl more (length out) (take n after) h.bytes_given;
     }
 
-pub whole_log_lent : (k : ℕ) (words active : List ℕ) (s : Recovered) (snapshot log out : List ℕ) (r : Written) (after : List ℕ)
+pub whole_log_lent : (k : ℕ) (words active : List ℕ) (s : Recovered) (snapshot log out : List ℕ) (r : Answer ℕ) (after : List ℕ)
     → WritesState words active s snapshot log out r after → WritesState words active s snapshot (take k log ++ drop k log) out r after
 whole_log_lent k words active s snapshot log out r after =
     subst (λ (l : List ℕ). WritesState words active s snapshot l out r after) (sym (take-append-drop k log))
 
 -- ---- what is left to refuse
-only : (bytes : List ℕ) (large short : Bool) → Only34Or32 (written_told (refuse TooLarge large >>= λ _. refuse OutputTooShort short >>= λ _. answer bytes))
+only : (bytes : List ℕ) (large short : Bool) → Only34Or32 (written_told (refuse TooLarge large >>= λ _. refuse OutputTooShort short >>= λ _. Ok bytes))
 only bytes true short = inl refl
 only bytes false true = inr refl
 only bytes false false = tt
@@ -62,14 +61,14 @@ rows_only c sequence snapshot log room rows =
     only (file_of c sequence (map (seen c.dimensions snapshot log) rows)) (ltb max_snapshot_bytes k) (ltb room k)
 
 answers : (bytes : List ℕ) (k : ℕ) → length bytes ≡ k → (large short : Bool)
-    → written_told (refuse TooLarge large >>= λ _. refuse OutputTooShort short >>= λ _. answer bytes)
-    ≡ cond large (Writes.Refused TooLarge) (cond short (Writes.Refused OutputTooShort) (Writes.Bytes k))
+    → written_told (refuse TooLarge large >>= λ _. refuse OutputTooShort short >>= λ _. Ok bytes)
+    ≡ cond large (Err TooLarge) (cond short (Err OutputTooShort) (Ok k))
 answers bytes k e true short = refl
 answers bytes k e false true = refl
-answers bytes k e false false = ap (λ (n : ℕ). Writes.Bytes n) e
+answers bytes k e false false = ap (λ (n : ℕ). Ok n) e
 
 module _ (words active snapshot log more : List ℕ) (s : Recovered) (bs : Bytes snapshot) (bl : Bytes log) (given : recover (rows_lent words active) snapshot log ≡ recovered s)
-    (out : List ℕ) (r : Written) (after : List ℕ) where
+    (out : List ℕ) (r : Answer ℕ) (after : List ℕ) where
   taken : (extent : Extent)
       → r ≡ written_told (write extent s.config s.state.sequence (recover_tables words active (recovered s)).rows (record_count s) snapshot (log ++ more) (length out))
       → Only34Or32 r

@@ -1,11 +1,10 @@
 -- What `specs/EncodedFrame.antt` says of an encoded frame.
+use Rattle.std.specs.Prelude.{Ok}
 use Prim.Native.Nat.{ℕ, ◌<◌, ◌^◌}
 use mathlib.Core.Path.{◌≡◌, sym, ap, ◌∙◌}
 use mathlib.Core.List.{List, [], ◌∷◌}
 use lib.ListN.{length, take}
-use Rattle.refusal.specs.declared.Written.{Written}
-use Rattle.refusal.specs.declared.Written.TheVariants as Writes
-use Rattle.refusal.specs.Refusal.{answer, written_told}
+use Rattle.refusal.specs.Refusal.{written_told, Answer}
 use Rattle.config.specs.Settings.{validate}
 use Rattle.config.specs.declared.Config.{Config}
 use Rattle.layout.specs.declared.Shape.{Shape}
@@ -33,11 +32,11 @@ left shape config sequence operations coordinates captions w q n out after h =
     }
 
 delete_as_encoded : (sequence id : ℕ) (out after : List ℕ) → HostDeleteMeets sequence id out 29 after
-    → (c : Config) (captions : List ℕ) (r : Written) (after' : List ℕ) → validate c ≡ answer tt
-    → EncodeFrameMeets c sequence (id ∷ 0 ∷ []) [] captions out r after' → (r ≡ Writes.Bytes 29) × (after' ≡ after)
+    → (c : Config) (captions : List ℕ) (r : Answer ℕ) (after' : List ℕ) → validate c ≡ Ok tt
+    → EncodeFrameMeets c sequence (id ∷ 0 ∷ []) [] captions out r after' → (r ≡ Ok 29) × (after' ≡ after)
 delete_as_encoded sequence id out after meets c captions r after' valid m =
     let e = delete_encodes c sequence id captions (length out) valid (sequence_positive sequence id out after meets) (room_there sequence id out after meets) in (
-      m.result_is ∙ ap written_told e ∙ ap (λ (n : ℕ). Writes.Bytes n) (length_delete sequence id),
+      m.result_is ∙ ap written_told e ∙ ap (λ (n : ℕ). Ok n) (length_delete sequence id),
       m.output_is ∙ ap (output_after out) e ∙ sym (is_frame sequence id out after meets),
     )
 

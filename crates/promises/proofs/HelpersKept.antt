@@ -15,7 +15,7 @@ use Rattle.links.specs.Links.{plain_rows}
 use Rattle.tree.specs.declared.Place.{Place}
 use Rattle.tree.specs.Grown.{Once, Finds, cell_of}
 use Rattle.tree.specs.Grown.Finds.{found, none}
-use Rattle.promises.proofs.OneAnswers.{one_answer, exact, exact_after}
+use Rattle.promises.proofs.OneAnswers.{one_answer, exact, exact_ok, exact_after}
 
 pub crc32_helpers : Crc32Helpers
 crc32_helpers =
@@ -104,7 +104,7 @@ pub log_helpers : LogHelpers
 log_helpers =
     record {
       read_operation_one_answer = λ κs config log end tag at. exact;
-      stored_operation_one_answer = λ κs config log end tag at. exact;
+      stored_operation_one_answer = λ κs config log end tag at. exact_ok;
       read_frame_one_answer = λ κs tables config log previous at. exact;
     }
 

@@ -1,12 +1,12 @@
 -- What `specs/Listing.antt` says of the listing's calls and of what is listed.
+use Rattle.std.specs.Prelude.{Ok}
 use Prim.Native.Nat.{ℕ, ◌≤◌}
 use mathlib.Core.Path.{◌≡◌, sym, ap, ◌∙◌}
 use mathlib.Core.List.{List, ◌++◌, append-nil}
 use lib.Dec.{ltb}
 use lib.ListN.{length, take}
 use Rattle.refusal.specs.declared.Refusal.TheVariants.{OutputTooShort}
-use Rattle.refusal.specs.declared.Written.TheVariants as Writes
-use Rattle.refusal.specs.Refusal.{answer, written_told}
+use Rattle.refusal.specs.Refusal.{written_told}
 use Rattle.refusal.proofs.Results.{answer_injective, passed, went}
 use Rattle.fields.specs.Fields.{Bytes}
 use Rattle.rows.specs.Rows.{row_at}
@@ -16,7 +16,7 @@ use Rattle.meaning.specs.Records.{seen}
 use Rattle.meaning.specs.Views.{view}
 use Rattle.meaning.specs.Recovery.{recover}
 use Rattle.meaning.specs.Calls.{output_after}
-use Rattle.recovery.specs.declared.Recovery.{Recovery}
+use Rattle.recovery.specs.Told.{Recovery}
 use Rattle.recovery.specs.declared.RecoveryInfo.{RecoveryInfo}
 use Rattle.listing_text.specs.Lines.{first_line, refused_line, node_line}
 use Rattle.listing_text.specs.Listing.{heading_shown, answer_line, node_lines, listing_text, fitted, first_line_call, refusal_line_call, answer_line_call, node_line_call}
@@ -29,17 +29,17 @@ use Rattle.promises.proofs.OneAnswers.{one_answer}
 use Rattle.promises.proofs.Outputs.{written_holds, untouched}
 use Rattle.promises.proofs.RecoverShown.{by_answer, shows}
 
-fits : (out line bytes : List ℕ) → fitted out line ≡ answer bytes → line ≡ bytes
+fits : (out line bytes : List ℕ) → fitted out line ≡ Ok bytes → line ≡ bytes
 unfolding fitted
 fits out line bytes e = answer_injective line bytes (went OutputTooShort (ltb (length out) (length line)) _ bytes e).then
 
-line_left : (line : List ℕ) (n : ℕ) (out after : List ℕ) → Writes.Bytes n ≡ written_told (fitted out line) → after ≡ output_after out (fitted out line)
+line_left : (line : List ℕ) (n : ℕ) (out after : List ℕ) → Ok n ≡ written_told (fitted out line) → after ≡ output_after out (fitted out line)
     → LineLeft line n out after
 line_left line n out after e f =
     let h = written_holds (fitted out line) n out after e f in
     record { is_line = sym (fits out line _ h.bytes_given); rest_untouched = h.rest_untouched }
 
-node_line_left : (snapshot log rows : List ℕ) (count : ℕ) (node : Node) (d n : ℕ) (out after : List ℕ) → NodeLineMeets snapshot log rows count node d out (Writes.Bytes n) after
+node_line_left : (snapshot log rows : List ℕ) (count : ℕ) (node : Node) (d n : ℕ) (out after : List ℕ) → NodeLineMeets snapshot log rows count node d out (Ok n) after
     → LineLeft (node_line node.0 (seen d snapshot log (row_at rows node.0))) n out after
 unfolding node_line_call
 node_line_left snapshot log rows count node d n out after m =
@@ -71,17 +71,17 @@ listing_calls =
       number_line_one_answer = λ words n out r s x y m n'. (one_answer m.result_is n'.result_is, one_answer m.output_is n'.output_is);
       log_line_contract = λ κs number at out r after p. record { result_is = p.0; output_is = p.1 };
       log_line_one_answer = λ number at out r s x y m n. (one_answer m.result_is n.result_is, one_answer m.output_is n.output_is);
-      answer_line_contract = λ κs answer out r after p. record { result_is = p.0; output_is = p.1 };
-      answer_line_one_answer = λ answer out r s x y m n. (one_answer m.result_is n.result_is, one_answer m.output_is n.output_is);
+      answer_line_contract = λ κs Ok out r after p. record { result_is = p.0; output_is = p.1 };
+      answer_line_one_answer = λ Ok out r s x y m n. (one_answer m.result_is n.result_is, one_answer m.output_is n.output_is);
       node_line_contract = λ κs snapshot log rows count node d out r after p. record { result_is = p.0; output_is = p.1 };
       node_line_one_answer = λ snapshot log rows count node d out r s x y m n. (one_answer m.result_is n.result_is, one_answer m.output_is n.output_is);
       first_line_left = λ heading n out after m. line_left (first_line heading) n out after m.result_is m.output_is;
       refusal_line_left = λ stopped n out after m. line_left (refused_line stopped) n out after m.result_is m.output_is;
-      answer_line_left = λ answer n out after m. line_left (answer_line answer) n out after m.result_is m.output_is;
+      answer_line_left = λ Ok n out after m. line_left (answer_line Ok) n out after m.result_is m.output_is;
       node_line_left = node_line_left;
       first_line_untouched = λ heading out why after m. untouched (first_line_call heading out) why out after m.result_is m.output_is;
       refusal_line_untouched = λ stopped out why after m. untouched (refusal_line_call stopped out) why out after m.result_is m.output_is;
-      answer_line_untouched = λ answer out why after m. untouched (answer_line_call answer out) why out after m.result_is m.output_is;
+      answer_line_untouched = λ Ok out why after m. untouched (answer_line_call Ok out) why out after m.result_is m.output_is;
       node_line_untouched = λ snapshot log rows count node d out why after m. untouched (node_line_call d rows count node.0 snapshot log out) why out after m.result_is m.output_is;
       listing_shown_lem = listing_shown_lem;
       listing_of_files = listing_of_files;

@@ -1,4 +1,5 @@
 -- What `specs/LogWalked.antt` says of the walk over a log.
+use Rattle.std.specs.Prelude.{Ok, Err, Some}
 use Prim.Native.Nat.{ℕ, zero, suc, ◌+◌, ◌-◌, ◌≤◌}
 use native.Mathlib.Omega.{arith}
 use mathlib.Core.Path.{◌≡◌, refl, sym, ap, subst, ◌∙◌}
@@ -6,7 +7,7 @@ use mathlib.Core.List.{List, [], ◌∷◌, map}
 use borrow.Author.Tests.{le-ltb}
 use lib.Dec.{ltb}
 use lib.ListN.{length}
-use Rattle.refusal.specs.Refusal.{Result, answer, refused, told}
+use Rattle.refusal.specs.Refusal.{Answer, told}
 use Rattle.refusal.specs.declared.Refusal.TheVariants.{PastTheEnd}
 use Rattle.refusal.proofs.Results.{answer_injective, pass, go_on, passed}
 use Rattle.config.specs.Settings.{validate}
@@ -24,9 +25,8 @@ use Rattle.meaning.proofs.FrameRead.{IsFound, frame_bounds}
 use Rattle.meaning.proofs.OperationRead.{operations_none, operations_read_lem, single_read}
 use Rattle.store_log.specs.declared.Frame.{Frame}
 use Rattle.store_log.specs.declared.ReadOperation.{ReadOperation}
-use Rattle.store_log.specs.declared.ReadFrame.TheVariants as ReadFrames
 use Rattle.store_log.specs.Stored.{IsFrame}
-use Rattle.store_log.specs.Told.{operation_then, operation_read, operation_told, frame_found, frame_told}
+use Rattle.store_log.specs.Told.{operation_as, operation_read, operation_told, frame_found, frame_told}
 use Rattle.replay.proofs.FrameFacts.{Lies, lies, batch_stored}
 use Rattle.recovery.proofs.RunLaws.{told_whole}
 use Rattle.lambspool.specs.declared.Frame as SaidFrame
@@ -36,49 +36,49 @@ use Rattle.lambspool.specs.Said.{kind_number, frame_said, operation_said}
 use Rattle.promises.specs.LogWalked.{operations_walked, frames_walked, Answers, behind_all, behind, operation_in, FrameWalked, next_said, without_next, said_of, SaidWalked, LogWalked}
 
 -- ---- one operation, where it is known to stand
-module _ (c : Config) (log : List ℕ) (valid : validate c ≡ answer tt) (end : ℕ) (inside : end ≤ length log) where
+module _ (c : Config) (log : List ℕ) (valid : validate c ≡ Ok tt) (end : ℕ) (inside : end ≤ length log) where
   called : (shape : Shape) (at : ℕ) → at + id_offset shape ≤ end
       → operation_call c log shape end at ≡ operation_at c log end (num log at 1) (at + id_offset shape)
   called shape at room =
       go_on (validate c) _ tt valid ∙ pass PastTheEnd (ltb (length log) end) _ (le-ltb _ _ inside) ∙ pass PastTheEnd (ltb end (at + id_offset shape)) _ (le-ltb _ _ room)
 
-  batch_walked : (n at : ℕ) (x : ReadOperations) → operations_at n c log end at ≡ answer x → operations_walked n c log Batch end at ≡ answer x
+  batch_walked : (n at : ℕ) (x : ReadOperations) → operations_at n c log end at ≡ Ok x → operations_walked n c log Batch end at ≡ Ok x
   unfolding operations_walked
-  batch_walked zero at x e = ap answer (sym (operations_none c log end at x e))
+  batch_walked zero at x e = ap Ok (sym (operations_none c log end at x e))
   batch_walked (suc n) at x e =
       let s = operations_read_lem n c log end at x e in
       go_on (operation_call c log Batch end at) _ s.this (called Batch at s.tag_inside ∙ s.this_read)
       ∙ go_on (operations_walked n c log Batch end s.this.next) _ s.rest (batch_walked n s.this.next s.rest s.rest_read)
-      ∙ ap answer (sym s.all_is)
+      ∙ ap Ok (sym s.all_is)
 
-  single_walked : (start : ℕ) (x : ReadOperations) → start + 17 ≤ end → operations_of Single c log end (num log (start + 8) 1) (start + 17) ≡ answer x
-      → operations_walked (length x.operations) c log Single end (start + 8) ≡ answer x
+  single_walked : (start : ℕ) (x : ReadOperations) → start + 17 ≤ end → operations_of Single c log end (num log (start + 8) 1) (start + 17) ≡ Ok x
+      → operations_walked (length x.operations) c log Single end (start + 8) ≡ Ok x
   unfolding operations_walked
   single_walked start x room e =
       let s = single_read c log end (num log (start + 8) 1) (start + 17) x e in
       let place : start + 8 + 9 ≡ start + 17 = omega arith in
       let here : start + 8 + id_offset Single ≤ end = omega arith in
-      let this-called : operation_call c log Single end (start + 8) ≡ answer s.this =
+      let this-called : operation_call c log Single end (start + 8) ≡ Ok s.this =
       called Single (start + 8) here ∙ ap (operation_at c log end (num log (start + 8) 1)) place ∙ s.this_read in
       ap (λ (y : ReadOperations). operations_walked (length y.operations) c log Single end (start + 8)) s.all_is
-      ∙ go_on (operation_call c log Single end (start + 8)) _ s.this this-called ∙ ap answer (sym s.all_is)
+      ∙ go_on (operation_call c log Single end (start + 8)) _ s.this this-called ∙ ap Ok (sym s.all_is)
 
 -- ---- a frame
 module _ (c : Config) (log : List ℕ) (previous at : ℕ) where
   pub record Called (f : Replays.Frame Row) (next : ℕ) : Type 0 where
-    pub valid : validate c ≡ answer tt
+    pub valid : validate c ≡ Ok tt
     pub there : frame_at c log previous at ≡ found f next
 
   frame_called : (f : Replays.Frame Row) (next : ℕ) → frame_call c log previous at ≡ found f next → Called f next
   frame_called f next e = go (validate c) refl e
     where
-      go : (x : Result (Unit {0})) → validate c ≡ x → told (λ _. frame_at c log previous at) wrong x ≡ found f next → Called f next
-      go (answer u) v e = record { valid = v; there = e }
-      go (refused why) v e = absurd (subst IsFound (sym e) tt)
+      go : (x : Answer (Unit {0})) → validate c ≡ x → told (λ _. frame_at c log previous at) wrong x ≡ found f next → Called f next
+      go (Ok u) v e = record { valid = v; there = e }
+      go (Err why) v e = absurd (subst IsFound (sym e) tt)
 
   operations_walked_lem : (f : Replays.Frame Row) (next : ℕ) → frame_call c log previous at ≡ found f next
       → operations_walked (length f.operations) c log f.shape (operations_end next) (first_operation f.shape f.start)
-      ≡ answer (record { operations = f.operations; next = operations_end next })
+      ≡ Ok (record { operations = f.operations; next = operations_end next })
   operations_walked_lem f next e = go f.shape l.read
     where
       k : Called f next
@@ -97,8 +97,8 @@ module _ (c : Config) (log : List ℕ) (previous at : ℕ) where
       inside : next - 4 ≤ length log
       inside = let h = l.inside in omega arith
 
-      go : (shape : Shape) → operations_of shape c log (next - 4) (num log (f.start + 8) 1) (f.start + 17) ≡ answer all
-          → operations_walked (length f.operations) c log shape (next - 4) (first_operation shape f.start) ≡ answer all
+      go : (shape : Shape) → operations_of shape c log (next - 4) (num log (f.start + 8) 1) (f.start + 17) ≡ Ok all
+          → operations_walked (length f.operations) c log shape (next - 4) (first_operation shape f.start) ≡ Ok all
       go Single r = let far = l.far in single_walked c log k.valid (next - 4) inside f.start all (omega arith) r
       go Batch r =
           let place : f.start + 8 + 13 ≡ f.start + 17 + 4 = omega arith in
@@ -107,11 +107,11 @@ module _ (c : Config) (log : List ℕ) (previous at : ℕ) where
           (batch_stored c log (next - 4) (num log (f.start + 8) 1) (f.start + 17) all r)
 
 -- ---- the frames
-frames_walked_from : (n : ℕ) (c : Config) (log : List ℕ) (previous at : ℕ) → validate c ≡ answer tt → frames_walked n c log previous at ≡ frames_from n c log previous at
+frames_walked_from : (n : ℕ) (c : Config) (log : List ℕ) (previous at : ℕ) → validate c ≡ Ok tt → frames_walked n c log previous at ≡ frames_from n c log previous at
 unfolding frames_walked frames_from
 frames_walked_from zero c log previous at valid = refl
 frames_walked_from (suc n) c log previous at valid =
-    ap (λ (x : Result (Unit {0})). go_on_reading (frames_walked n c log) at (told (λ _. frame_at c log previous at) wrong x)) valid
+    ap (λ (x : Answer (Unit {0})). go_on_reading (frames_walked n c log) at (told (λ _. frame_at c log previous at) wrong x)) valid
     ∙ go (λ p a. frames_walked_from n c log p a valid) (frame_at c log previous at)
   where
     go : ((p a : ℕ) → frames_walked n c log p a ≡ frames_from n c log p a) → (x : ReadFrame) → go_on_reading (frames_walked n c log) at x ≡ go_on_reading (frames_from n c log) at x
@@ -119,7 +119,7 @@ frames_walked_from (suc n) c log previous at valid =
     go again (wrong why) = refl
     go again (found f next) = ap (join f) (again f.sequence next)
 
-frames_walked_lem : (c : Config) (log : List ℕ) → validate c ≡ answer tt → frames_walked (length log) c log 0 0 ≡ frames_of c log
+frames_walked_lem : (c : Config) (log : List ℕ) → validate c ≡ Ok tt → frames_walked (length log) c log 0 0 ≡ frames_of c log
 unfolding frames_of
 frames_walked_lem c log = frames_walked_from (length log) c log 0 0
 
@@ -127,13 +127,13 @@ frames_walked_lem c log = frames_walked_from (length log) c log 0 0
 module _ {A B : Type 0} (next : A → ℕ) (show : A → B) (meant : Operation Row → B) (tell : Meant.ReadOperation → A)
     (tells : (x : Meant.ReadOperation) → show (tell x) ≡ meant x.operation) (goes : (x : Meant.ReadOperation) → next (tell x) ≡ x.next)
     (c : Config) (log : List ℕ) (shape : Shape) (end : ℕ) (call : ℕ → A)
-    (calls : (at : ℕ) (x : Meant.ReadOperation) → operation_call c log shape end at ≡ answer x → call at ≡ tell x)
+    (calls : (at : ℕ) (x : Meant.ReadOperation) → operation_call c log shape end at ≡ Ok x → call at ≡ tell x)
   where
     pub record AllTold (at : ℕ) (rs : List A) (x : ReadOperations) : Type 0 where
       pub operations_are : map show rs ≡ map meant x.operations
       pub ends_there : behind_all next at rs ≡ x.next
 
-    all_told : (rs : List A) (at : ℕ) (x : ReadOperations) → operations_walked (length rs) c log shape end at ≡ answer x → Answers next call at rs → AllTold at rs x
+    all_told : (rs : List A) (at : ℕ) (x : ReadOperations) → operations_walked (length rs) c log shape end at ≡ Ok x → Answers next call at rs → AllTold at rs x
     unfolding operations_walked
     all_told [] at x e a =
         let is = answer_injective (record { operations = []; next = at }) x e in
@@ -153,32 +153,28 @@ module _ {A B : Type 0} (next : A → ℕ) (show : A → B) (meant : Operation R
         })
 
 -- ---- the answers of `operation_at`
-told_in : (x : Meant.ReadOperation) → operation_in (operation_read x) ≡ answer x.operation
+told_in : (x : Meant.ReadOperation) → operation_in (Ok (operation_read x)) ≡ Ok x.operation
 told_in x = go x.operation
   where
-    go : (o : Operation Row) → operation_in (operation_then x.next o) ≡ answer o
+    go : (o : Operation Row) → operation_in (Ok (record { operation = operation_as o; next = x.next })) ≡ Ok o
     go (put row) = refl
     go (remove id) = refl
 
-told_behind : (x : Meant.ReadOperation) → behind (operation_read x) ≡ x.next
-told_behind x = go x.operation
-  where
-    go : (o : Operation Row) → behind (operation_then x.next o) ≡ x.next
-    go (put row) = refl
-    go (remove id) = refl
+told_behind : (x : Meant.ReadOperation) → behind (Ok (operation_read x)) ≡ x.next
+told_behind x = refl
 
 -- a frame that `frame_at` told
-whole_there : (c : Config) (log : List ℕ) (previous at : ℕ) (frame : Frame) → ReadFrames.Whole frame ≡ frame_told (frame_call c log previous at)
-    → (validate c ≡ answer tt) × (ReadFrames.Whole frame ≡ frame_told (frame_at c log previous at))
+whole_there : (c : Config) (log : List ℕ) (previous at : ℕ) (frame : Frame) → Ok (Some frame) ≡ frame_told (frame_call c log previous at)
+    → (validate c ≡ Ok tt) × (Ok (Some frame) ≡ frame_told (frame_at c log previous at))
 whole_there c log previous at frame e = go (validate c) refl e
   where
-    go : (x : Result (Unit {0})) → validate c ≡ x → ReadFrames.Whole frame ≡ frame_told (told (λ _. frame_at c log previous at) wrong x)
-        → (validate c ≡ answer tt) × (ReadFrames.Whole frame ≡ frame_told (frame_at c log previous at))
-    go (answer u) v e = (v, e)
-    go (refused why) v e = absurd (let z : ◌≡◌ {A = ℕ} 0 1 = cc in omega arith)
+    go : (x : Answer (Unit {0})) → validate c ≡ x → Ok (Some frame) ≡ frame_told (told (λ _. frame_at c log previous at) wrong x)
+        → (validate c ≡ Ok tt) × (Ok (Some frame) ≡ frame_told (frame_at c log previous at))
+    go (Ok u) v e = (v, e)
+    go (Err why) v e = absurd (let z : ◌≡◌ {A = ℕ} 0 1 = cc in omega arith)
 
-frame_walked : (c : Config) (log : List ℕ) (previous at : ℕ) (frame : Frame) → ReadFrames.Whole frame ≡ frame_told (frame_call c log previous at)
-    → (rs : List ReadOperation) → length rs ≡ frame.operations
+frame_walked : (c : Config) (log : List ℕ) (previous at : ℕ) (frame : Frame) → Ok (Some frame) ≡ frame_told (frame_call c log previous at)
+    → (rs : List (Answer ReadOperation)) → length rs ≡ frame.operations
     → Answers behind (λ k. operation_told (operation_call c log frame.shape (operations_end frame.next) k)) (first_operation frame.shape frame.start) rs
     → FrameWalked c log previous at frame rs
 frame_walked c log previous at frame e rs many a =
@@ -187,35 +183,35 @@ frame_walked c log previous at frame e rs many a =
     let f = read.meant in
     let is : frame ≡ frame_found f frame.next = read.told in
     let called : frame_call c log previous at ≡ found f frame.next =
-    ap (λ (x : Result (Unit {0})). told (λ _. frame_at c log previous at) wrong x) w.0 ∙ read.there in
+    ap (λ (x : Answer (Unit {0})). told (λ _. frame_at c log previous at) wrong x) w.0 ∙ read.there in
     let all = operations_walked_lem c log previous at f frame.next called in
     let as_many : length rs ≡ length f.operations = many ∙ ap (λ (x : Frame). x.operations) is in
     let shape_is : frame.shape ≡ f.shape = ap (λ (x : Frame). x.shape) is in
     let start_is : frame.start ≡ f.start = ap (λ (x : Frame). x.start) is in
     let here : operations_walked (length rs) c log frame.shape (operations_end frame.next) (first_operation frame.shape frame.start)
-    ≡ answer (record { operations = f.operations; next = operations_end frame.next }) =
+    ≡ Ok (record { operations = f.operations; next = operations_end frame.next }) =
     (λ i. operations_walked (as_many i) c log (shape_is i) (operations_end frame.next) (first_operation (shape_is i) (start_is i))) ∙ all in
-    let t = all_told behind operation_in answer operation_read told_in told_behind c log frame.shape (operations_end frame.next) _ (λ k x r. ap operation_told r) rs (first_operation frame.shape frame.start) _ here a in
+    let t = all_told behind operation_in Ok (λ y. Ok (operation_read y)) told_in told_behind c log frame.shape (operations_end frame.next) _ (λ k x r. ap operation_told r) rs (first_operation frame.shape frame.start) _ here a in
     record { meant = f; there = read.there; operations_are = t.operations_are; ends_there = t.ends_there }
 
 -- ---- those of the C entry
 module _ (d : ℕ) where
-  said_without : (x : Meant.ReadOperation) → without_next (operation_said d (operation_read x)) ≡ said_of d x.operation
+  said_without : (x : Meant.ReadOperation) → without_next (operation_said d (Ok (operation_read x))) ≡ said_of d x.operation
   said_without x = go x.operation
     where
-      go : (o : Operation Row) → without_next (operation_said d (operation_then x.next o)) ≡ said_of d o
+      go : (o : Operation Row) → without_next (operation_said d (Ok (record { operation = operation_as o; next = x.next }))) ≡ said_of d o
       go (put row) = refl
       go (remove id) = refl
 
-  said_behind : (x : Meant.ReadOperation) → next_said (operation_said d (operation_read x)) ≡ x.next
+  said_behind : (x : Meant.ReadOperation) → next_said (operation_said d (Ok (operation_read x))) ≡ x.next
   said_behind x = go x.operation
     where
-      go : (o : Operation Row) → next_said (operation_said d (operation_then x.next o)) ≡ x.next
+      go : (o : Operation Row) → next_said (operation_said d (Ok (record { operation = operation_as o; next = x.next }))) ≡ x.next
       go (put row) = refl
       go (remove id) = refl
 
 -- it is asked by the kind's number
-module _ (d m ef seed metric : ℕ) (log : List ℕ) (c : Config) (known : settings_of d m ef seed metric ≡ answer c) where
+module _ (d m ef seed metric : ℕ) (log : List ℕ) (c : Config) (known : settings_of d m ef seed metric ≡ Ok c) where
   asked : (shape : Shape) (end at : ℕ) → operation_asked d m ef seed metric log (kind_number shape) end at ≡ operation_call c log shape end at
   asked shape end at = go_on (settings_of d m ef seed metric) _ c known ∙ by shape
     where
@@ -223,9 +219,9 @@ module _ (d m ef seed metric : ℕ) (log : List ℕ) (c : Config) (known : setti
       by Single = refl
       by Batch = refl
 
-  asked_said : (shape : Shape) (end at : ℕ) (x : Meant.ReadOperation) → operation_call c log shape end at ≡ answer x
-      → operation_said d (operation_told (operation_asked d m ef seed metric log (kind_number shape) end at)) ≡ operation_said d (operation_read x)
-  asked_said shape end at x e = ap (λ (y : Result Meant.ReadOperation). operation_said d (operation_told y)) (asked shape end at ∙ e)
+  asked_said : (shape : Shape) (end at : ℕ) (x : Meant.ReadOperation) → operation_call c log shape end at ≡ Ok x
+      → operation_said d (operation_told (operation_asked d m ef seed metric log (kind_number shape) end at)) ≡ operation_said d (Ok (operation_read x))
+  asked_said shape end at x e = ap (λ (y : Answer Meant.ReadOperation). operation_said d (operation_told y)) (asked shape end at ∙ e)
 
 said_walked : (d m ef seed metric : ℕ) (log : List ℕ) (previous at : ℕ) (frame : SaidFrame.Frame)
     → frame ≡ frame_said (frame_told (frame_asked d m ef seed metric log previous at)) → (frame.kind ≡ 0 → ⊥)
@@ -237,7 +233,7 @@ said_walked d m ef seed metric log previous at frame e some rs many a = settled 
     kind_of : SaidFrame.Frame → ℕ
     kind_of f = f.kind
 
-    there : (c : Config) → settings_of d m ef seed metric ≡ answer c → (x : ReadFrame) → frame_call c log previous at ≡ x → frame ≡ frame_said (frame_told x)
+    there : (c : Config) → settings_of d m ef seed metric ≡ Ok c → (x : ReadFrame) → frame_call c log previous at ≡ x → frame ≡ frame_said (frame_told x)
         → SaidWalked d m ef seed metric log previous at frame rs
     there c known too_little w e = absurd (some (ap kind_of e))
     there c known (wrong why) w e = absurd (some (ap kind_of e))
@@ -248,7 +244,7 @@ said_walked d m ef seed metric log previous at frame e some rs many a = settled 
         let here = ap (λ (k : ℕ). operations_walked k c log f.shape end first) as_many ∙ operations_walked_lem c log previous at f next w in
         let answers : Answers next_said (λ k. operation_said d (operation_told (operation_asked d m ef seed metric log (kind_number f.shape) end k))) first rs =
         subst (λ (x : SaidFrame.Frame). Answers next_said (λ k. operation_said d (operation_told (operation_asked d m ef seed metric log x.kind x.end k))) x.first rs) e a in
-        let t = all_told next_said without_next (said_of d) (λ x. operation_said d (operation_read x)) (said_without d) (said_behind d) c log f.shape end _ (asked_said d m ef seed metric log c known f.shape end) rs first _ here answers in
+        let t = all_told next_said without_next (said_of d) (λ x. operation_said d (Ok (operation_read x))) (said_without d) (said_behind d) c log f.shape end _ (asked_said d m ef seed metric log c known f.shape end) rs first _ here answers in
         subst (λ (x : SaidFrame.Frame). SaidWalked d m ef seed metric log previous at x rs) (sym e)
         (record {
           config = c;
@@ -259,10 +255,10 @@ said_walked d m ef seed metric log previous at frame e some rs many a = settled 
           ends_there = t.ends_there;
         })
 
-    settled : (x : Result Config) → settings_of d m ef seed metric ≡ x → frame ≡ frame_said (frame_told (told (λ c. frame_call c log previous at) wrong x))
+    settled : (x : Answer Config) → settings_of d m ef seed metric ≡ x → frame ≡ frame_said (frame_told (told (λ c. frame_call c log previous at) wrong x))
         → SaidWalked d m ef seed metric log previous at frame rs
-    settled (answer c) known e = there c known (frame_call c log previous at) refl e
-    settled (refused why) known e = absurd (some (ap kind_of e))
+    settled (Ok c) known e = there c known (frame_call c log previous at) refl e
+    settled (Err why) known e = absurd (some (ap kind_of e))
 
 pub log_walked : LogWalked
 log_walked = record { operations_walked_lem = operations_walked_lem; frames_walked_lem = frames_walked_lem; frame_walked = frame_walked; said_walked = said_walked }

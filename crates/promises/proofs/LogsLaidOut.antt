@@ -1,10 +1,11 @@
 -- What `specs/LogLaidOut.antt` says of the layouts that `recover` and `frame_at` read.
+use Rattle.std.specs.Prelude.{Ok, Err, Option, Some, None}
 use Prim.Native.Nat.{ℕ, suc, ◌+◌, ◌-◌}
 use mathlib.Core.Path.{◌≡◌, refl, sym, ap, ◌∙◌, subst}
 use native.Mathlib.Omega.{arith}
 use mathlib.Core.List.{List, [], ◌∷◌, ◌++◌}
 use lib.ListN.{length, drop, length-map}
-use Rattle.refusal.specs.Refusal.{Result, answer, refused, told}
+use Rattle.refusal.specs.Refusal.{Answer, told}
 use Rattle.refusal.specs.declared.Refusal.{Refusal}
 use Rattle.fields.specs.Fields.{part, Bytes}
 use Rattle.config.specs.Settings.{validate}
@@ -20,15 +21,13 @@ use Rattle.meaning.specs.Recovery as Recoverings
 use Rattle.meaning.specs.Recovery.{recover}
 use Rattle.meaning.specs.Calls.{recover_call}
 use Rattle.store_log.specs.declared.Frame.{Frame}
-use Rattle.store_log.specs.declared.ReadFrame.{ReadFrame}
-use Rattle.store_log.specs.declared.ReadFrame.TheVariants as Frames
 use Rattle.store_log.specs.Told.{frame_found, frame_told}
 use Rattle.theorems.specs.FrameRows.{fields_of, logged_at, logged_from, operation_rows, Follows, carry_operation}
 use Rattle.theorems.specs.LogLaidOut.{layout_of, frame_shown, FrameFits, frames_shown}
 use Rattle.theorems.proofs.RawFrame.{frame_is_its_layout}
 use Rattle.theorems.proofs.RawLog.{log_is_its_frames, refused_is_its_frames, layout_is_read}
 use Rattle.recovery.specs.declared.RecoveryInfo.{RecoveryInfo}
-use Rattle.recovery.specs.declared.Recovery.TheVariants as Recoveries
+use Rattle.recovery.specs.declared.NotRecovered.TheVariants as Refusals
 use Rattle.recovery.specs.Told.{recovery_answer}
 use Rattle.promises.specs.Recover.{Recovers, shown}
 use Rattle.promises.specs.Store.{FrameAtMeets}
@@ -36,7 +35,7 @@ use Rattle.promises.specs.LogLaidOut.{RecoveredLaidOut, frame_laid, WholeLaidOut
 use Rattle.promises.proofs.RecoverShown.{shows}
 
 recovered_is_its_frames : (lent : ℕ) (snapshot log : List ℕ) → Bytes snapshot → Bytes log
-    → (i : RecoveryInfo) (words : List ℕ) → Recovers lent snapshot log (Recoveries.Recovered i) words → RecoveredLaidOut snapshot log i
+    → (i : RecoveryInfo) (words : List ℕ) → Recovers lent snapshot log (Ok i) words → RecoveredLaidOut snapshot log i
 recovered_is_its_frames lent snapshot log bs bl i words call =
     let s = shows lent snapshot log i words bs bl call in
     let l = log_is_its_frames lent snapshot log (shown i words) bl s.given in
@@ -51,7 +50,7 @@ recovered_is_its_frames lent snapshot log bs bl i words call =
       shown = refl;
     }
 
-refused_given : (log : List ℕ) (given : Recoverings.Recovery) (why : Refusal) (at : ℕ) → Recoveries.RefusedLog why at ≡ recovery_answer log given
+refused_given : (log : List ℕ) (given : Recoverings.Recovery) (why : Refusal) (at : ℕ) → Err (Refusals.Log why at) ≡ recovery_answer log given
     → given ≡ Recoverings.refused_log why at
 refused_given log (Recoverings.recovered r) why at e = absurd (let z : ◌≡◌ {A = ℕ} 0 1 = cc in omega arith)
 refused_given log (Recoverings.refused_snapshot other) why at e = absurd (let z : ◌≡◌ {A = ℕ} 0 1 = cc in omega arith)
@@ -65,30 +64,30 @@ record IsFound (config : Config) (log : List ℕ) (previous at : ℕ) (f : Frame
   there : frame_at config log previous at ≡ Meant.found meant next
   told_is : f ≡ frame_found meant next
 
-abbrev IsWhole : ReadFrame → Type 0
-IsWhole Frames.TooLittle = ⊥
-IsWhole (Frames.Whole f) = Unit
-IsWhole (Frames.Refused why) = ⊥
+abbrev IsWhole : Answer (Option Frame) → Type 0
+IsWhole (Ok None) = ⊥
+IsWhole (Ok (Some f)) = Unit
+IsWhole (Err why) = ⊥
 
-abbrev whole_or : Frame → ReadFrame → Frame
-whole_or other Frames.TooLittle = other
-whole_or other (Frames.Whole f) = f
-whole_or other (Frames.Refused why) = other
+abbrev whole_or : Frame → Answer (Option Frame) → Frame
+whole_or other (Ok None) = other
+whole_or other (Ok (Some f)) = f
+whole_or other (Err why) = other
 
-is_found : (config : Config) (log : List ℕ) (previous at : ℕ) (f : Frame) → FrameAtMeets config log previous at (Frames.Whole f) → IsFound config log previous at f
+is_found : (config : Config) (log : List ℕ) (previous at : ℕ) (f : Frame) → FrameAtMeets config log previous at (Ok (Some f)) → IsFound config log previous at f
 is_found config log previous at f m = valid (validate config) m.result_is
   where
-    here : (x : Meant.ReadFrame) → frame_at config log previous at ≡ x → Frames.Whole f ≡ frame_told x → IsFound config log previous at f
+    here : (x : Meant.ReadFrame) → frame_at config log previous at ≡ x → Ok (Some f) ≡ frame_told x → IsFound config log previous at f
     here Meant.too_little e h = absurd (subst IsWhole h tt)
     here (Meant.wrong why) e h = absurd (subst IsWhole h tt)
     here (Meant.found g next) e h = record { meant = g; next = next; there = e; told_is = ap (whole_or f) h }
 
-    valid : (v : Result (Unit {0})) → Frames.Whole f ≡ frame_told (told (λ _. frame_at config log previous at) Meant.wrong v) → IsFound config log previous at f
-    valid (answer u) h = here (frame_at config log previous at) refl h
-    valid (refused why) h = absurd (subst IsWhole h tt)
+    valid : (v : Answer (Unit {0})) → Ok (Some f) ≡ frame_told (told (λ _. frame_at config log previous at) Meant.wrong v) → IsFound config log previous at f
+    valid (Ok u) h = here (frame_at config log previous at) refl h
+    valid (Err why) h = absurd (subst IsWhole h tt)
 
 whole_is_its_layout : (config : Config) (log : List ℕ) (previous at : ℕ) (f : Frame) → Bytes log
-    → FrameAtMeets config log previous at (Frames.Whole f) → WholeLaidOut config log previous at f
+    → FrameAtMeets config log previous at (Ok (Some f)) → WholeLaidOut config log previous at f
 whole_is_its_layout config log previous at f b m =
     let x = is_found config log previous at f m in
     let g = x.meant in
@@ -117,14 +116,14 @@ length_operations : (shape : Shape) (at : ℕ) (os : List (Replays.Operation Rec
 length_operations Single at os = length-map os (logged_at (at + 17))
 length_operations Batch at os = length_logged (at + 21) os
 
-layout_is_whole : (config : Config) (log : List ℕ) (previous : ℕ) (f : Replays.Frame Record) (rest : List ℕ) → validate config ≡ answer tt
+layout_is_whole : (config : Config) (log : List ℕ) (previous : ℕ) (f : Replays.Frame Record) (rest : List ℕ) → validate config ≡ Ok tt
     → FrameFits config f → Follows previous f.sequence → drop f.start log ≡ layout_of f ++ rest
-    → (r : ReadFrame) → FrameAtMeets config log previous f.start r → r ≡ Frames.Whole (frame_laid f)
+    → (r : Answer (Option Frame)) → FrameAtMeets config log previous f.start r → r ≡ Ok (Some (frame_laid f))
 layout_is_whole config log previous f rest valid fits follows h r m =
     m.result_is
-    ∙ ap (λ (v : Result (Unit {0})). frame_told (told (λ _. frame_at config log previous f.start) Meant.wrong v)) valid
+    ∙ ap (λ (v : Answer (Unit {0})). frame_told (told (λ _. frame_at config log previous f.start) Meant.wrong v)) valid
     ∙ ap frame_told (layout_is_read config log previous f rest fits follows h)
-    ∙ ap (λ (n : ℕ). Frames.Whole (record { start = f.start; sequence = f.sequence; shape = f.shape; operations = n; next = f.start + length (layout_of f) }))
+    ∙ ap (λ (n : ℕ). Ok (Some (record { start = f.start; sequence = f.sequence; shape = f.shape; operations = n; next = f.start + length (layout_of f) })))
     (length_operations f.shape f.start f.operations)
 
 pub log_laid_out : LogLaidOut

@@ -1,4 +1,5 @@
 -- What `specs/Recover.antt` says of `recover`; and what its answer shows with the row words is what the definition gives.
+use Rattle.std.specs.Prelude.{Ok, Err}
 use Prim.Native.Nat.{ℕ, ◌+◌, ◌-◌}
 use mathlib.Core.Path.{◌≡◌, refl, sym, ap, ◌∙◌, subst}
 use mathlib.Core.List.{List}
@@ -14,10 +15,9 @@ use Rattle.meaning.specs.Calls.{recovery_told, recover_call, recover_tables}
 use Rattle.theorems.specs.Compared.{accepts, compared, holds, brief}
 use Rattle.theorems.proofs.TableRows.{rows_of_table}
 use Rattle.theorems.proofs.Written.{recovered_packs}
-use Rattle.recovery.specs.declared.Recovery.{Recovery}
+use Rattle.recovery.specs.Told.{Recovery, info_of, recovery_answer}
 use Rattle.recovery.specs.declared.RecoveryInfo.{RecoveryInfo}
-use Rattle.recovery.specs.Told.{info_of, recovery_answer}
-use Rattle.recovery.specs.declared.Recovery.TheVariants as Recoveries
+use Rattle.recovery.specs.declared.NotRecovered.TheVariants as Refusals
 use Rattle.promises.specs.Recover.{RecoverCalls, Recovers, shown, records_shown, compared_shown, brief_shown}
 use Rattle.promises.proofs.OneAnswers.{one_answer}
 
@@ -35,16 +35,16 @@ pub record Told (log : List ℕ) (given : Meant.Recovery) (i : RecoveryInfo) : T
   pub info_is : i ≡ info_of (recovery_told log state)
 
 abbrev info_or : RecoveryInfo → Recovery → RecoveryInfo
-info_or other (Recoveries.Recovered i) = i
-info_or other (Recoveries.RefusedSnapshot why) = other
-info_or other (Recoveries.RefusedLog why at) = other
+info_or other (Ok i) = i
+info_or other (Err (Refusals.Snapshot why)) = other
+info_or other (Err (Refusals.Log why at)) = other
 
 abbrev pub IsRecovered : Recovery → Type 0
-IsRecovered (Recoveries.Recovered i) = Unit
-IsRecovered (Recoveries.RefusedSnapshot why) = ⊥
-IsRecovered (Recoveries.RefusedLog why at) = ⊥
+IsRecovered (Ok i) = Unit
+IsRecovered (Err (Refusals.Snapshot why)) = ⊥
+IsRecovered (Err (Refusals.Log why at)) = ⊥
 
-pub told : (log : List ℕ) (given : Meant.Recovery) (i : RecoveryInfo) → Recoveries.Recovered i ≡ recovery_answer log given → Told log given i
+pub told : (log : List ℕ) (given : Meant.Recovery) (i : RecoveryInfo) → Ok i ≡ recovery_answer log given → Told log given i
 told log (Meant.recovered r) i e = record { state = r; is = refl; info_is = ap (info_or i) e }
 told log (Meant.refused_snapshot why) i e = absurd (subst IsRecovered e tt)
 told log (Meant.refused_log why at) i e = absurd (subst IsRecovered e tt)
@@ -70,7 +70,7 @@ pub record Shows (lent : ℕ) (snapshot log : List ℕ) (i : RecoveryInfo) (word
   pub told_is : i ≡ info_of (recovery_told log (shown i words))
 
 module _ (lent : ℕ) (snapshot log : List ℕ) (i : RecoveryInfo) (words : List ℕ) (bs : Bytes snapshot) (bl : Bytes log)
-    (call : Recovers lent snapshot log (Recoveries.Recovered i) words) where
+    (call : Recovers lent snapshot log (Ok i) words) where
   t : Told log (recover_call call.rows call.active snapshot log) i
   t = told log (recover_call call.rows call.active snapshot log) i call.meets.result_is
 
@@ -93,9 +93,9 @@ module _ (lent : ℕ) (snapshot log : List ℕ) (i : RecoveryInfo) (words : List
 module _ (lent : ℕ) (snapshot log : List ℕ) (bs : Bytes snapshot) (bl : Bytes log) (words : List ℕ) where
   -- so it is if it is of an accepted answer, and if it goes by the refusal and its place alone
   pub by_answer : {A : Type 0} (ours : Recovery → A) (meant : Meant.Recovery → A)
-      → ((i : RecoveryInfo) → Recovers lent snapshot log (Recoveries.Recovered i) words → ours (Recoveries.Recovered i) ≡ meant (Meant.recovered (shown i words)))
-      → ((why : Refusal) → ours (Recoveries.RefusedSnapshot why) ≡ meant (Meant.refused_snapshot why))
-      → ((why : Refusal) (at : ℕ) → ours (Recoveries.RefusedLog why at) ≡ meant (Meant.refused_log why at))
+      → ((i : RecoveryInfo) → Recovers lent snapshot log (Ok i) words → ours (Ok i) ≡ meant (Meant.recovered (shown i words)))
+      → ((why : Refusal) → ours (Err (Refusals.Snapshot why)) ≡ meant (Meant.refused_snapshot why))
+      → ((why : Refusal) (at : ℕ) → ours (Err (Refusals.Log why at)) ≡ meant (Meant.refused_log why at))
       → (r : Recovery) → Recovers lent snapshot log r words → ours r ≡ meant (recover lent snapshot log)
   by_answer {A} ours meant taken no-snapshot no-log r call =
       go (recover_call call.rows call.active snapshot log) refl r call call.meets.result_is
@@ -103,16 +103,16 @@ module _ (lent : ℕ) (snapshot log : List ℕ) (bs : Bytes snapshot) (bl : Byte
     where
       go : (x : Meant.Recovery) → recover_call call.rows call.active snapshot log ≡ x → (r : Recovery) → Recovers lent snapshot log r words → r ≡ recovery_answer log x
           → ours r ≡ meant (recover_call call.rows call.active snapshot log)
-      go x e (Recoveries.Recovered i) c h =
+      go x e (Ok i) c h =
           taken i c ∙ ap meant (sym (shows lent snapshot log i words bs bl c).given ∙ ap (λ (n : ℕ). recover n snapshot log) (sym call.as_many))
-      go (Meant.recovered s) e (Recoveries.RefusedSnapshot why) c h = absurd (subst IsRecovered (sym h) tt)
-      go (Meant.recovered s) e (Recoveries.RefusedLog why at) c h = absurd (subst IsRecovered (sym h) tt)
-      go (Meant.refused_snapshot why') e (Recoveries.RefusedSnapshot why) c h = ap ours h ∙ no-snapshot why' ∙ ap meant (sym e)
-      go (Meant.refused_snapshot why') e (Recoveries.RefusedLog why at) c h = ap ours h ∙ no-snapshot why' ∙ ap meant (sym e)
-      go (Meant.refused_log why' at') e (Recoveries.RefusedSnapshot why) c h = ap ours h ∙ no-log why' at' ∙ ap meant (sym e)
-      go (Meant.refused_log why' at') e (Recoveries.RefusedLog why at) c h = ap ours h ∙ no-log why' at' ∙ ap meant (sym e)
+      go (Meant.recovered s) e (Err (Refusals.Snapshot why)) c h = absurd (subst IsRecovered (sym h) tt)
+      go (Meant.recovered s) e (Err (Refusals.Log why at)) c h = absurd (subst IsRecovered (sym h) tt)
+      go (Meant.refused_snapshot why') e (Err (Refusals.Snapshot why)) c h = ap ours h ∙ no-snapshot why' ∙ ap meant (sym e)
+      go (Meant.refused_snapshot why') e (Err (Refusals.Log why at)) c h = ap ours h ∙ no-snapshot why' ∙ ap meant (sym e)
+      go (Meant.refused_log why' at') e (Err (Refusals.Snapshot why)) c h = ap ours h ∙ no-log why' at' ∙ ap meant (sym e)
+      go (Meant.refused_log why' at') e (Err (Refusals.Log why at)) c h = ap ours h ∙ no-log why' at' ∙ ap meant (sym e)
 
-  tail_is : (i : RecoveryInfo) → Recovers lent snapshot log (Recoveries.Recovered i) words → i.tail ≡ length log - i.keep
+  tail_is : (i : RecoveryInfo) → Recovers lent snapshot log (Ok i) words → i.tail ≡ length log - i.keep
   tail_is i call = ap (λ x. x.tail) (shows lent snapshot log i words bs bl call).told_is
 
   pub compared_is : (r : Recovery) → Recovers lent snapshot log r words

@@ -1,4 +1,5 @@
 -- What `specs/Refused.antt` says of refused calls.
+use Rattle.std.specs.Prelude.{Ok, Err}
 use Prim.Native.Nat.{ℕ, ◌-◌, ◌≤◌, ◌<◌}
 use native.Mathlib.Omega.{arith}
 use mathlib.Core.Path.{◌≡◌, refl, sym, ap, ap₂, ◌∙◌, subst}
@@ -9,7 +10,7 @@ use lib.Dec.{ltb}
 use borrow.Author.Tests.{ltb-false, le-ltb}
 use Rattle.refusal.specs.declared.Refusal.{Refusal}
 use Rattle.refusal.specs.declared.Refusal.TheVariants as Refusals
-use Rattle.refusal.specs.Refusal.{Result, answer, refused, number, written_told}
+use Rattle.refusal.specs.Refusal.{Answer, number, written_told}
 use Rattle.config.specs.Limits.{max_log_bytes}
 use Rattle.config.specs.declared.Config.{Config}
 use Rattle.layout.specs.declared.Extent.TheVariants.{Full, Compacted}
@@ -27,16 +28,13 @@ use Rattle.meaning.specs.Recovery.{bounds_for, with_snapshot, ended, recover}
 use Rattle.meaning.specs.Tables.{row_words, live_from, active_nodes, filled}
 use Rattle.meaning.specs.Calls.{read_call, read_tables, recover_call, recover_tables, write_call, encode_call, output_after, delete_refused}
 use Rattle.theorems.proofs.RefusedThere.{refused_at, refused_if}
-use Rattle.snapshot.specs.declared.ReadSnapshot.TheVariants as Snapshots
 use Rattle.snapshot.specs.Told.{read_told}
 use Rattle.graph.specs.Cache.{Cache, read_cache}
 use Rattle.graph.specs.Told.{cache_told, starts_after}
-use Rattle.graph.specs.declared.ReadCache.TheVariants as Caches
 use Rattle.graph_theorems.specs.CacheCalls.{ReadCacheMeets}
-use Rattle.recovery.specs.declared.Recovery.{Recovery}
+use Rattle.recovery.specs.Told.{Recovery, recovery_answer, recovery_number, recovery_byte}
 use Rattle.recovery.specs.declared.RecoveryInfo.{RecoveryInfo}
-use Rattle.recovery.specs.declared.Recovery.TheVariants as Recoveries
-use Rattle.recovery.specs.Told.{recovery_answer, recovery_number, recovery_byte}
+use Rattle.recovery.specs.declared.NotRecovered.TheVariants as Whys
 use Rattle.lambspool.proofs.RefusalText.{snapshot_text, log_text, file_text}
 use Rattle.lambspool.specs.Asked.{cache_asked, write_asked, encode_asked}
 use Rattle.lambspool.specs.Said.{snapshot_said, store_said, cache_said, bytes_said}
@@ -101,15 +99,15 @@ positive Refusals.EdgeToMissingLevel = omega arith
 positive Refusals.EntryBelowHighest = omega arith
 positive Refusals.TooFewStarts = omega arith
 
-accepted_by_number : (r : Recovery) → recovery_number r ≡ 0 → (i : RecoveryInfo) × (r ≡ Recoveries.Recovered i)
-accepted_by_number (Recoveries.Recovered i) e = (i, refl)
-accepted_by_number (Recoveries.RefusedSnapshot why) e = absurd (let h = positive why in omega arith)
-accepted_by_number (Recoveries.RefusedLog why at) e = absurd (let h = positive why in omega arith)
+accepted_by_number : (r : Recovery) → recovery_number r ≡ 0 → (i : RecoveryInfo) × (r ≡ Ok i)
+accepted_by_number (Ok i) e = (i, refl)
+accepted_by_number (Err (Whys.Snapshot why)) e = absurd (let h = positive why in omega arith)
+accepted_by_number (Err (Whys.Log why at)) e = absurd (let h = positive why in omega arith)
 
 -- ---- what was refused
 -- a snapshot's refusal is of a log within its bound
 snapshot_refused : (lent : ℕ) (snapshot log : List ℕ) (why : Refusal) → recover lent snapshot log ≡ Meant.refused_snapshot why
-    → (length log ≤ max_log_bytes) × (read_snapshot lent snapshot ≡ refused why)
+    → (length log ≤ max_log_bytes) × (read_snapshot lent snapshot ≡ Err why)
 unfolding recover
 snapshot_refused lent snapshot log why e = first (ltb max_log_bytes (length log)) refl e
   where
@@ -117,22 +115,22 @@ snapshot_refused lent snapshot log why e = first (ltb max_log_bytes (length log)
     third S (reached s k) h = let z : ◌≡◌ {A = ℕ} 0 1 = cc in omega arith
     third S (stopped w k) h = let z : ◌≡◌ {A = ℕ} 0 1 = cc in omega arith
 
-    second : (x : Result Snapshot) → read_snapshot lent snapshot ≡ x → with_snapshot lent log x ≡ Meant.refused_snapshot why → read_snapshot lent snapshot ≡ refused why
-    second (answer S) e h = absurd (third S (replay (row_kind S.config.dimensions) (bounds_for lent) S.sequence S.rows (frames_of S.config log)) h)
-    second (refused w) e h = let same : w ≡ why = cc in e ∙ ap (λ (x : Refusal). refused x) same
+    second : (x : Answer Snapshot) → read_snapshot lent snapshot ≡ x → with_snapshot lent log x ≡ Meant.refused_snapshot why → read_snapshot lent snapshot ≡ Err why
+    second (Ok S) e h = absurd (third S (replay (row_kind S.config.dimensions) (bounds_for lent) S.sequence S.rows (frames_of S.config log)) h)
+    second (Err w) e h = let same : w ≡ why = cc in e ∙ ap (λ (x : Refusal). Err x) same
 
     first : (b : Bool) → ltb max_log_bytes (length log) ≡ b
         → cond b (Meant.refused_log Refusals.LogTooLong 0) (with_snapshot lent log (read_snapshot lent snapshot)) ≡ Meant.refused_snapshot why
-        → (length log ≤ max_log_bytes) × (read_snapshot lent snapshot ≡ refused why)
+        → (length log ≤ max_log_bytes) × (read_snapshot lent snapshot ≡ Err why)
     first true e h = absurd (let z : ◌≡◌ {A = ℕ} 0 1 = cc in omega arith)
     first false e h = (ltb-false max_log_bytes (length log) e, second (read_snapshot lent snapshot) refl h)
 
 -- and the other way
-snapshot_refused_if : (lent : ℕ) (snapshot log : List ℕ) (why : Refusal) → length log ≤ max_log_bytes → read_snapshot lent snapshot ≡ refused why
+snapshot_refused_if : (lent : ℕ) (snapshot log : List ℕ) (why : Refusal) → length log ≤ max_log_bytes → read_snapshot lent snapshot ≡ Err why
     → recover lent snapshot log ≡ Meant.refused_snapshot why
 unfolding recover
 snapshot_refused_if lent snapshot log why h e =
-    ap₂ (λ (b : Bool) (x : Result Snapshot). cond b (Meant.refused_log Refusals.LogTooLong 0) (with_snapshot lent log x)) (le-ltb max_log_bytes (length log) h) e
+    ap₂ (λ (b : Bool) (x : Answer Snapshot). cond b (Meant.refused_log Refusals.LogTooLong 0) (with_snapshot lent log x)) (le-ltb max_log_bytes (length log) h) e
 
 -- the answer of a call, by what the definition gives with as many rows lent
 answer_is : (lent : ℕ) (snapshot log : List ℕ) (r : Recovery) (words : List ℕ) → Recovers lent snapshot log r words → r ≡ recovery_answer log (recover lent snapshot log)
@@ -154,9 +152,9 @@ refused_if_so : (lent : ℕ) (snapshot log : List ℕ) (r : Recovery) (words : L
 refused_if_so lent snapshot log r words call right h = answer_is lent snapshot log r words call ∙ go right h
   where
     go : (right : Recovery) → RefusedRightly lent snapshot log right → recovery_answer log (recover lent snapshot log) ≡ right
-    go (Recoveries.Recovered i) h = absurd h
-    go (Recoveries.RefusedSnapshot why) h = ap (recovery_answer log) (snapshot_refused_if lent snapshot log why h.0 h.1)
-    go (Recoveries.RefusedLog why at) h = ap (recovery_answer log) (refused_if lent snapshot log why at h)
+    go (Ok i) h = absurd h
+    go (Err (Whys.Snapshot why)) h = ap (recovery_answer log) (snapshot_refused_if lent snapshot log why h.0 h.1)
+    go (Err (Whys.Log why at)) h = ap (recovery_answer log) (refused_if lent snapshot log why at h)
 
 -- ---- lent tables
 no_rows : (words : List ℕ) → filled (length words) (row_words []) ≡ replicate (length words) 0
@@ -179,21 +177,21 @@ recover_zeros snapshot log rows active r rows' active' m h =
     go (Meant.refused_log why at) h p q = (p ∙ no_rows rows, q ∙ no_entries active)
 
 read_zeros : (bytes rows active : List ℕ) (why : Refusal) (rows' active' : List ℕ)
-    → ReadSnapshotMeets bytes rows active (Snapshots.Refused why) rows' active' → ZeroAfter rows rows' × ZeroAfter active active'
+    → ReadSnapshotMeets bytes rows active (Err why) rows' active' → ZeroAfter rows rows' × ZeroAfter active active'
 read_zeros bytes rows active why rows' active' m = go (read_call rows active bytes) m.result_is m.rows_are m.active_is
   where
-    go : (x : Result Snapshot) → Snapshots.Refused why ≡ read_told x → rows' ≡ (read_tables rows active x).rows → active' ≡ (read_tables rows active x).active
+    go : (x : Answer Snapshot) → Err why ≡ read_told x → rows' ≡ (read_tables rows active x).rows → active' ≡ (read_tables rows active x).active
         → ZeroAfter rows rows' × ZeroAfter active active'
-    go (answer S) e p q = absurd (let z : ◌≡◌ {A = ℕ} 0 1 = cc in omega arith)
-    go (refused w) e p q = (p ∙ no_rows rows, q ∙ no_entries active)
+    go (Ok S) e p q = absurd (let z : ◌≡◌ {A = ℕ} 0 1 = cc in omega arith)
+    go (Err w) e p q = (p ∙ no_rows rows, q ∙ no_entries active)
 
 cache_zeros : (bytes : List ℕ) (config : Config) (crc sequence count : ℕ) (starts : List ℕ) (why : Refusal) (starts' : List ℕ)
-    → ReadCacheMeets bytes config crc sequence count starts (Caches.Refused why) starts' → ZeroAfter starts starts'
+    → ReadCacheMeets bytes config crc sequence count starts (Err why) starts' → ZeroAfter starts starts'
 cache_zeros bytes config crc sequence count starts why starts' m = go (read_cache config crc sequence count (length starts) bytes) m.result_is m.starts_are
   where
-    go : (x : Result Cache) → Caches.Refused why ≡ cache_told x → starts' ≡ starts_after (length starts) x → ZeroAfter starts starts'
-    go (answer c) e p = absurd (let z : ◌≡◌ {A = ℕ} 0 1 = cc in omega arith)
-    go (refused w) e p = p
+    go : (x : Answer Cache) → Err why ≡ cache_told x → starts' ≡ starts_after (length starts) x → ZeroAfter starts starts'
+    go (Ok c) e p = absurd (let z : ◌≡◌ {A = ℕ} 0 1 = cc in omega arith)
+    go (Err w) e p = p
 
 -- ---- outputs
 host_delete_untouched : (sequence id : ℕ) (out after : List ℕ) → HostDeleteMeets sequence id out 0 after → after ≡ out
@@ -205,9 +203,9 @@ host_delete_untouched sequence id out after m = go (delete_refused sequence out)
 
 -- ---- the C entries
 door_tells : (r : Recovery) → ((store_said r).number ≡ recovery_number r) × ((store_said r).at ≡ recovery_byte r)
-door_tells (Recoveries.Recovered i) = (refl, refl)
-door_tells (Recoveries.RefusedSnapshot why) = (refl, refl)
-door_tells (Recoveries.RefusedLog why at) = (refl, refl)
+door_tells (Ok i) = (refl, refl)
+door_tells (Err (Whys.Snapshot why)) = (refl, refl)
+door_tells (Err (Whys.Log why at)) = (refl, refl)
 
 door_recover_zeros : (snapshot log rows active : List ℕ) (r : Store) (rows' active' : List ℕ) → DoorRecoverMeets snapshot log rows active r rows' active'
     → 0 < r.number → ZeroAfter rows rows' × ZeroAfter active active'
@@ -225,25 +223,25 @@ door_read_zeros : (bytes rows active : List ℕ) (r : SnapshotSaid) (rows' activ
 door_read_zeros bytes rows active r rows' active' m h =
     go (read_call rows active bytes) (subst (λ (x : SnapshotSaid). 0 < x.number) m.result_is h) m.rows_are m.active_is
   where
-    go : (x : Result Snapshot) → 0 < (snapshot_said (read_told x)).number → rows' ≡ (read_tables rows active x).rows → active' ≡ (read_tables rows active x).active
+    go : (x : Answer Snapshot) → 0 < (snapshot_said (read_told x)).number → rows' ≡ (read_tables rows active x).rows → active' ≡ (read_tables rows active x).active
         → ZeroAfter rows rows' × ZeroAfter active active'
-    go (answer S) h p q = absurd (omega arith)
-    go (refused w) h p q = (p ∙ no_rows rows, q ∙ no_entries active)
+    go (Ok S) h p q = absurd (omega arith)
+    go (Err w) h p q = (p ∙ no_rows rows, q ∙ no_entries active)
 
-starts_zero : (lent : List ℕ) (given : Result Cache) (r : CacheSaid) (after : List ℕ) → r ≡ cache_said (cache_told given) → after ≡ starts_after (length lent) given
+starts_zero : (lent : List ℕ) (given : Answer Cache) (r : CacheSaid) (after : List ℕ) → r ≡ cache_said (cache_told given) → after ≡ starts_after (length lent) given
     → 0 < r.number → ZeroAfter lent after
 starts_zero lent given r after e p h = go given (subst (λ (x : CacheSaid). 0 < x.number) e h) p
   where
-    go : (x : Result Cache) → 0 < (cache_said (cache_told x)).number → after ≡ starts_after (length lent) x → ZeroAfter lent after
-    go (answer c) h p = absurd (omega arith)
-    go (refused w) h p = p
+    go : (x : Answer Cache) → 0 < (cache_said (cache_told x)).number → after ≡ starts_after (length lent) x → ZeroAfter lent after
+    go (Ok c) h p = absurd (omega arith)
+    go (Err w) h p = p
 
-bytes_untouched : (given : Result (List ℕ)) (r : BytesSaid) (out after : List ℕ) → r ≡ bytes_said (written_told given) → after ≡ output_after out given → 0 < r.number → after ≡ out
+bytes_untouched : (given : Answer (List ℕ)) (r : BytesSaid) (out after : List ℕ) → r ≡ bytes_said (written_told given) → after ≡ output_after out given → 0 < r.number → after ≡ out
 bytes_untouched given r out after e p h = go given (subst (λ (x : BytesSaid). 0 < x.number) e h) p
   where
-    go : (x : Result (List ℕ)) → 0 < (bytes_said (written_told x)).number → after ≡ output_after out x → after ≡ out
-    go (answer bytes) h p = absurd (omega arith)
-    go (refused w) h p = p
+    go : (x : Answer (List ℕ)) → 0 < (bytes_said (written_told x)).number → after ≡ output_after out x → after ≡ out
+    go (Ok bytes) h p = absurd (omega arith)
+    go (Err w) h p = p
 
 pub refused_calls : Refused
 refused_calls =

@@ -1,11 +1,11 @@
 -- What `specs/RecoverWriteRecover.antt` says of recover, write, recover.
+use Rattle.refusal.specs.Refusal.{Answer}
+use Rattle.std.specs.Prelude.{Ok, Err}
 use Prim.Native.Nat.{ℕ, ◌≤◌}
 use mathlib.Core.Path.{◌≡◌, sym, ap, ◌∙◌, subst, transport}
 use mathlib.Core.List.{List, [], ◌++◌, append_assoc}
 use lib.ListN.{length, take, drop, take-append-drop}
 use lib.Seq.{take-append-le, take-append_seam}
-use Rattle.refusal.specs.declared.Written.{Written}
-use Rattle.refusal.specs.declared.Written.TheVariants as Writes
 use Rattle.layout.specs.declared.Extent.TheVariants.{Full}
 use Rattle.fields.specs.Fields.{Bytes}
 use Rattle.fields.proofs.Numbers.{Bytes-take, Bytes-drop}
@@ -20,10 +20,8 @@ use Rattle.theorems.proofs.LogCut.{front_cut}
 use Rattle.theorems.proofs.Recovering.{accepted, frames_to_tail}
 use Rattle.theorems.proofs.AtTheCut.{recovered_storable}
 use Rattle.theorems.proofs.InWords.{front_recovers, cut_of_accepted_front}
-use Rattle.recovery.specs.declared.Recovery.{Recovery}
+use Rattle.recovery.specs.Told.{Recovery, info_of, recovery_answer}
 use Rattle.recovery.specs.declared.RecoveryInfo.{RecoveryInfo}
-use Rattle.recovery.specs.Told.{info_of, recovery_answer}
-use Rattle.recovery.specs.declared.Recovery.TheVariants as Recoveries
 use Rattle.promises.specs.Recover.{Recovers, shown}
 use Rattle.promises.specs.Store.{WriteMeets}
 use Rattle.promises.specs.WrittenFile.{WritesState, FileAtTheCut, answer_for}
@@ -63,11 +61,11 @@ module _ (rows active snapshot front rest : List ℕ) (bs : Bytes snapshot) (bl 
       ∙ ap (λ (l : List ℕ). l ++ (drop s.keep front ++ more)) (sym (take-append-le s.keep front rest keep_inside))
       ∙ ap (λ (k : ℕ). take k log ++ (drop s.keep front ++ more)) (sym place_is)
 
-  file : (more : List ℕ) (n : ℕ) (out after : List ℕ) → WritesState rows active s snapshot (front ++ more) out (Writes.Bytes n) after
+  file : (more : List ℕ) (n : ℕ) (out after : List ℕ) → WritesState rows active s snapshot (front ++ more) out (Ok n) after
       → FileAtTheCut rows active snapshot log end.cut n out after
   file more n out after m =
       file_at_the_cut rows active snapshot log end.cut bs bl (drop s.keep front ++ more) n out after
-      (let back = sym end.is in transport (λ j. WritesState rows active (back j) snapshot (log_lent more j) out (Writes.Bytes n) after) m)
+      (let back = sym end.is in transport (λ j. WritesState rows active (back j) snapshot (log_lent more j) out (Ok n) after) m)
 
   alike : (n : ℕ) (out after : List ℕ) → FileAtTheCut rows active snapshot log end.cut n out after → RecoversAlike rows_there snapshot (take n after) log s.keep
   alike n out after f =
@@ -84,21 +82,21 @@ module _ (rows active snapshot front rest : List ℕ) (bs : Bytes snapshot) (bl 
             ∙ subst (λ (k : ℕ). brief (take n after) (drop k log) (recover rows_there (take n after) (drop k log)) ≡ brief snapshot log (recovered (shown i words))) place_is
             (f.without_the_front (shown i words) g)
             ∙ ap (brief snapshot log) (sym g)
-            ∙ sym (brief_is rows_there snapshot log bs bl words (Recoveries.Recovered i) old);
+            ∙ sym (brief_is rows_there snapshot log bs bl words (Ok i) old);
       }
 
-  rewrites : (more out : List ℕ) (w : Written) (after : List ℕ) → WritesState rows active s snapshot (front ++ more) out w after → Rewrites rows_there snapshot log s.keep out w after
-  rewrites more out (Writes.Bytes n) after m = alike n out after (file more n out after m)
-  rewrites more out (Writes.Refused why) after m =
+  rewrites : (more out : List ℕ) (w : Answer ℕ) (after : List ℕ) → WritesState rows active s snapshot (front ++ more) out w after → Rewrites rows_there snapshot log s.keep out w after
+  rewrites more out (Ok n) after m = alike n out after (file more n out after m)
+  rewrites more out (Err why) after m =
       untouched (write_call Full s.config s.state.sequence (recover_tables rows active (recovered s)).rows (record_count s) snapshot (front ++ more) out) why out after
       m.result_is m.output_is
 
-  answers : (more out : List ℕ) (w : Written) (after : List ℕ) → WritesState rows active s snapshot (front ++ more) out w after → w ≡ answer_for (total_size s) out
+  answers : (more out : List ℕ) (w : Answer ℕ) (after : List ℕ) → WritesState rows active s snapshot (front ++ more) out w after → w ≡ answer_for (total_size s) out
   answers more out w after = write_answers rows active snapshot front more s bs bytes_front given out w after
 
 pub recover_write_recover : (lent : ℕ) (snapshot front rest : List ℕ) → Bytes snapshot → Bytes (front ++ rest)
-    → (i : RecoveryInfo) (words : List ℕ) → Recovers lent snapshot front (Recoveries.Recovered i) words
-    → (more out : List ℕ) (w : Written) (after : List ℕ) → WriteMeets i.config i.sequence words i.records snapshot (front ++ more) out w after
+    → (i : RecoveryInfo) (words : List ℕ) → Recovers lent snapshot front (Ok i) words
+    → (more out : List ℕ) (w : Answer ℕ) (after : List ℕ) → WriteMeets i.config i.sequence words i.records snapshot (front ++ more) out w after
     → (w ≡ answer_for i.size out) × Rewrites lent snapshot (front ++ rest) i.keep out w after
 recover_write_recover lent snapshot front rest bs bl i words call more out w after m =
     let t = told front (recover_call call.rows call.active snapshot front) i call.meets.result_is in
@@ -112,7 +110,7 @@ recover_write_recover lent snapshot front rest bs bl i words call more out w aft
     )
 
 pub cut_accepted : (lent : ℕ) (snapshot log : List ℕ) (cut : Cut lent snapshot log) (r : Recovery) (words : List ℕ)
-    → Recovers lent snapshot (take (place cut) log) r words → r ≡ Recoveries.Recovered (info_of (recovery_told (take (place cut) log) (there cut)))
+    → Recovers lent snapshot (take (place cut) log) r words → r ≡ Ok (info_of (recovery_told (take (place cut) log) (there cut)))
 cut_accepted lent snapshot log cut r words call =
     let front = take (place cut) log in
     call.meets.result_is

@@ -3,7 +3,6 @@ use Prim.Native.Nat.{ℕ, ◌*◌}
 use mathlib.Core.Path.{◌≡◌, sym, ap, ◌∙◌, subst}
 use mathlib.Core.Bool.{Bool}
 use mathlib.Core.List.{List}
-use Rattle.refusal.specs.Refusal.{checked}
 use Rattle.fields.specs.Fields.{part}
 use Rattle.utf8.specs.Utf8.{Octets, is_utf8}
 use Rattle.coordinates.specs.Coordinates.{patterns}
@@ -20,6 +19,6 @@ by_standards =
       is_utf8_decides = λ κs bytes r e. decides bytes.now r e;
       host_utf8_decides = λ κs bytes r e. decides bytes.now r e;
       valid_front_longest = λ κs bytes r e. subst (LongestFront bytes.now) (sym e) (standards.front_longest bytes.now);
-      check_bits_by_values = λ κs bits cosine r e. e ∙ ap checked (standards.vector_by_values cosine bits.now);
-      check_coordinates_by_values = λ κs bytes at d cosine r e. e ∙ ap checked (standards.vector_by_values cosine (patterns d (part bytes.now at (4 * d))));
+      check_bits_by_values = λ κs bits cosine r e. e ∙ standards.vector_by_values cosine bits.now;
+      check_coordinates_by_values = λ κs bytes at d cosine r e. e ∙ standards.vector_by_values cosine (patterns d (part bytes.now at (4 * d)));
     }

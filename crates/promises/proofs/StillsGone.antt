@@ -1,4 +1,5 @@
 -- What `specs/StillGone.antt` says of the playout host's delete, recovered.
+use Rattle.std.specs.Prelude.{Ok, Option, Some, None}
 use Prim.Native.Nat.{ℕ, suc, ◌+◌, ◌-◌, ◌≤◌, ◌<◌, ◌^◌}
 use native.Mathlib.Omega.{arith}
 use mathlib.Core.Path.{◌≡◌, refl, sym, ap, ◌∙◌, subst}
@@ -6,7 +7,7 @@ use mathlib.Core.Bool.{Bool, true, false, cond, true≢false}
 use mathlib.Core.List.{List, [], ◌∷◌, ◌++◌, map}
 use lib.ListN.{length, take}
 use borrow.Author.Tests.{le-ltb}
-use Rattle.refusal.specs.Refusal.{answer, refuse, ◌>>=◌}
+use Rattle.refusal.specs.Refusal.{refuse, ◌>>=◌, Answer}
 use Rattle.refusal.specs.declared.Refusal.TheVariants.{NoSuchNode}
 use Rattle.config.specs.Limits.{max_log_bytes}
 use Rattle.config.specs.declared.Config.{Config}
@@ -23,22 +24,18 @@ use Rattle.meaning.specs.Snapshot.{Snapshot, read_snapshot}
 use Rattle.meaning.specs.Recovery as Meant
 use Rattle.meaning.specs.Recovery.{Recovered, recover, live_count, rows_of}
 use Rattle.meaning.specs.Tables.{rows_in}
-use Rattle.meaning.specs.Views.{find_from, lookup}
+use Rattle.meaning.specs.Views.{Lookup, find_from, lookup}
 use Rattle.meaning.specs.Calls.{recover_call, recover_tables, recovery_told}
 use Rattle.meaning.proofs.Marking.{length_mark, live_known, mark_after, active_mark}
-use Rattle.views.specs.declared.Found.{Found}
-use Rattle.views.specs.declared.Found.TheVariants as Founds
-use Rattle.views.specs.Told.{found, found_told}
+use Rattle.views.specs.Told.{found_told}
 use Rattle.theorems.specs.DeleteAppended.{NotOlder, with_deleted}
 use Rattle.theorems.proofs.AtTheCut.{row_deletes, standing}
 use Rattle.theorems.proofs.Recovering as Recovering
 use Rattle.theorems.proofs.Written.{room_there}
 use Rattle.theorems.proofs.DeleteBytes.{delete_bytes}
 use Rattle.theorems.proofs.DeleteRecovered as DeleteRecovered
-use Rattle.recovery.specs.declared.Recovery.{Recovery}
+use Rattle.recovery.specs.Told.{Recovery, info_of, recovery_answer}
 use Rattle.recovery.specs.declared.RecoveryInfo.{RecoveryInfo}
-use Rattle.recovery.specs.Told.{info_of, recovery_answer}
-use Rattle.recovery.specs.declared.Recovery.TheVariants as Recoveries
 use Rattle.promises.specs.Recover.{Recovers, shown}
 use Rattle.promises.specs.Store.{LookupMeets}
 use Rattle.promises.specs.Playout.{HostDeleteMeets}
@@ -54,7 +51,7 @@ state_or z (Meant.refused_log why at) = z
 
 -- the words that an accepted recovery left have room for its rows
 rows_fit : (lent : ℕ) (snapshot log : List ℕ) → Bytes snapshot → Bytes log
-    → (i : RecoveryInfo) (words : List ℕ) → Recovers lent snapshot log (Recoveries.Recovered i) words → i.records ≤ rows_lent_plain words
+    → (i : RecoveryInfo) (words : List ℕ) → Recovers lent snapshot log (Ok i) words → i.records ≤ rows_lent_plain words
 rows_fit lent snapshot log bs bl i words call =
     let t = told log (recover_call call.rows call.active snapshot log) i call.meets.result_is in
     let many : i.records ≡ length (rows_of t.state) = ap (λ x. x.records) t.info_is in
@@ -65,12 +62,12 @@ rows_fit lent snapshot log bs bl i words call =
 
 -- lookup answers none of an ID that is not live among the rows in the words
 none_found : (d : ℕ) (words : List ℕ) (count : ℕ) (id : Id) → count ≤ rows_lent_plain words → active (row_kind d) id.0 (rows_in count words) ≡ false
-    → (f : Found) → LookupMeets words count id f → f ≡ Founds.None
+    → (f : Answer (Option Node)) → LookupMeets words count id f → f ≡ Ok None
 unfolding lookup
 none_found d words count id fits dead f m =
     m.result_is
-    ∙ ap (λ (b : Bool). found_told (refuse NoSuchNode b >>= λ _. answer (find_from id.0 0 (rows_in count words)))) (le-ltb (rows_lent_plain words) count fits)
-    ∙ ap found (not_live d id.0 0 (rows_in count words) dead)
+    ∙ ap (λ (b : Bool). found_told (refuse NoSuchNode b >>= λ _. Ok (find_from id.0 0 (rows_in count words)))) (le-ltb (rows_lent_plain words) count fits)
+    ∙ ap (λ (l : Lookup). found_told (Ok l)) (not_live d id.0 0 (rows_in count words) dead)
 
 -- where no ID is live twice, marking a live one leaves one record less live
 live_marked : (d id : ℕ) (rows : List Row) → LiveOnce (row_kind d) rows → active (row_kind d) id rows ≡ true
@@ -102,9 +99,9 @@ once_shown lent snapshot log r bs bl given =
     subst (λ (c : Config). LiveOnce (row_kind c.dimensions) (rows_of r)) (sym a.same_config) (standing lent snapshot log r bs bl a).once
 
 module _ (lent : ℕ) (snapshot log : List ℕ) (bs : Bytes snapshot) (bl : Bytes log) (room : length log + 29 ≤ max_log_bytes)
-    (i : RecoveryInfo) (words : List ℕ) (call : Recovers lent snapshot log (Recoveries.Recovered i) words) (no_tail : i.tail ≡ 0)
-    (S : Snapshot) (reads : read_snapshot lent snapshot ≡ answer S) (newer : NotOlder S log)
-    (id : Id) (node : Node) (is_found : LookupMeets words i.records id (Founds.Node node))
+    (i : RecoveryInfo) (words : List ℕ) (call : Recovers lent snapshot log (Ok i) words) (no_tail : i.tail ≡ 0)
+    (S : Snapshot) (reads : read_snapshot lent snapshot ≡ Ok S) (newer : NotOlder S log)
+    (id : Id) (node : Node) (is_found : LookupMeets words i.records id (Ok (Some node)))
     (out after : List ℕ) (wrote : HostDeleteMeets (i.sequence + 1) id.0 out 29 after) (q : i.sequence + 1 < 256 ^ 8) (k : id.0 < 256 ^ 8) where
   abbrev log' : List ℕ
   log' = log ++ take 29 after
@@ -137,13 +134,13 @@ module _ (lent : ℕ) (snapshot log : List ℕ) (bs : Bytes snapshot) (bl : Byte
   info = info_of (recovery_told log' (with_deleted id.0 x))
 
   module _ (r : Recovery) (words' : List ℕ) (again : Recovers lent snapshot log' r words') where
-    accepted : r ≡ Recoveries.Recovered info
+    accepted : r ≡ Ok info
     accepted =
         again.meets.result_is
         ∙ ap (λ (n : ℕ). recovery_answer log' (recover n snapshot log')) again.as_many
         ∙ ap (recovery_answer log') next
 
-    again_accepted : Recovers lent snapshot log' (Recoveries.Recovered info) words'
+    again_accepted : Recovers lent snapshot log' (Ok info) words'
     again_accepted = subst (λ (y : Recovery). Recovers lent snapshot log' y words') accepted again
 
     rows_are : rows_in info.records words' ≡ mark (row_kind d) id.0 (rows_in i.records words)

@@ -1,4 +1,5 @@
 -- What `specs/WrongRecoveries.antt` says, by the stores of document 01's sums at the edges: P5 and the worked example.
+use Rattle.std.specs.Prelude.{Ok}
 use Prim.Native.Nat.{ℕ, suc, zero, ◌-◌, ◌<◌, ◌^◌}
 use native.Mathlib.Omega.{arith}
 use mathlib.Core.Path.{◌≡◌, refl, sym, ap, ap₂, ◌∙◌, subst}
@@ -28,10 +29,8 @@ use Rattle.theorems.specs.EachFrameOnce.{up_to, above}
 use Rattle.theorems.specs.Sums.{example_snapshot, example_log, snapshot4, log45, example_recovered}
 use Rattle.theorems.proofs.SumsComputed.{example_cut, sums}
 use Rattle.theorems.proofs.InWords.{front_recovers}
-use Rattle.recovery.specs.declared.Recovery.{Recovery}
+use Rattle.recovery.specs.Told.{Recovery, info_of, recovery_answer}
 use Rattle.recovery.specs.declared.RecoveryInfo.{RecoveryInfo}
-use Rattle.recovery.specs.Told.{info_of, recovery_answer}
-use Rattle.recovery.specs.declared.Recovery.TheVariants as Recoveries
 use Rattle.promises.specs.Recover.{RecoverMeets, Recovers}
 use Rattle.promises.specs.WrongRecoveries.{AnyRecovery, Keeps, RefusesAll, OneConstant, SameRecords, SameRows, WritesNoRow, WritesNoEntry, FirstFrameOnly, FirstReplayedOnly, CountsTheFrames, WrongRecoveries}
 use Rattle.promises.proofs.TakenOnceShown.{recovered_once}
@@ -90,7 +89,7 @@ module _ (f : AnyRecovery) (keeps : Keeps f) where
   call5 : RecoverMeets snapshot4 log45 rows5 active5 (f.answers snapshot4 log45 rows5 active5) (f.rows_after snapshot4 log45 rows5 active5) (f.active_after snapshot4 log45 rows5 active5)
   call5 = keeps snapshot4 log45 rows5 active5 bytes_snapshot4 bytes_log45 (omega arith, (omega arith, tt)) (omega arith, tt)
 
-  answer5 : f.answers snapshot4 log45 rows5 active5 ≡ Recoveries.Recovered (info_of (recovery_told log45 recovered5))
+  answer5 : f.answers snapshot4 log45 rows5 active5 ≡ Ok (info_of (recovery_told log45 recovered5))
   answer5 = call5.result_is ∙ ap (recovery_answer log45) sums.p5
 
   refuses_all : RefusesAll f → ⊥
@@ -129,7 +128,7 @@ module _ (f : AnyRecovery) (keeps : Keeps f) where
   at_lent : (log : List ℕ) → recover_call rows active example_snapshot log ≡ recover 4096 example_snapshot log
   at_lent log = ap (λ (n : ℕ). recover n example_snapshot log) lent_is
 
-  answer_example : f.answers example_snapshot example_log rows active ≡ Recoveries.Recovered (info_of (recovery_told example_log example_recovered))
+  answer_example : f.answers example_snapshot example_log rows active ≡ Ok (info_of (recovery_told example_log example_recovered))
   answer_example = (call example_log bytes_example_log).result_is ∙ ap (recovery_answer example_log) (at_lent example_log ∙ sums.example)
 
   one_constant : OneConstant f → ⊥
@@ -195,7 +194,7 @@ module _ (f : AnyRecovery) (keeps : Keeps f) where
       let lent = rows_lent rows active in
       let m = keeps snapshot log rows active bs bl w v in
       let words = f.rows_after snapshot log rows active in
-      let recovers : Recovers lent snapshot log (Recoveries.Recovered i) words
+      let recovers : Recovers lent snapshot log (Ok i) words
       = subst (λ (r : Recovery). Recovers lent snapshot log r words) told
       (record { rows = rows; active = active; as_many = refl; active' = f.active_after snapshot log rows active; meets = m }) in
       let t = recovered_once.recovered_once lent snapshot log bs bl i words recovers in

@@ -1,9 +1,8 @@
 -- What the tests of coordinates and of captions answer, by the standards themselves (`Standards` of `theorems`): the values that IEEE 754
 -- has for the bits, and the grammar of RFC 3629.
+use Rattle.refusal.specs.Refusal.{Answer}
 use Rattle.std.specs.Prelude.{ℕ, ◌*◌, ◌≡◌, Bool, List, map}
 use Rattle.std.specs.Borrow.{Bor}
-use Rattle.refusal.specs.declared.Checked.{Checked}
-use Rattle.refusal.specs.Refusal.{checked}
 use Rattle.fields.specs.Fields.{part}
 use Rattle.utf8.specs.Utf8.{Octets}
 use Rattle.coordinates.specs.Coordinates.{patterns}
@@ -21,9 +20,9 @@ pub record ByStandards : Type 0 where
   -- valid_front(bytes)
   pub valid_front_longest : (κs : _) (bytes : Bor (List ℕ)) (r : ℕ) → ValidFrontCall.Learnt κs (bytes, tt) r (bytes, tt) → LongestFront bytes.now r
   -- check_bits(bits, cosine)
-  pub check_bits_by_values : (κs : _) (bits : Bor (List ℕ)) (cosine : Bool) (r : Checked)
-      → CheckBitsCall.Learnt κs (bits, (cosine, tt)) r (bits, (cosine, tt)) → r ≡ checked (values_test cosine (map value_of bits.now))
+  pub check_bits_by_values : (κs : _) (bits : Bor (List ℕ)) (cosine : Bool) (r : Answer (Unit {0}))
+      → CheckBitsCall.Learnt κs (bits, (cosine, tt)) r (bits, (cosine, tt)) → r ≡ (values_test cosine (map value_of bits.now))
   -- check_coordinates(bytes, at, d, cosine)
-  pub check_coordinates_by_values : (κs : _) (bytes : Bor (List ℕ)) (at d : ℕ) (cosine : Bool) (r : Checked)
+  pub check_coordinates_by_values : (κs : _) (bytes : Bor (List ℕ)) (at d : ℕ) (cosine : Bool) (r : Answer (Unit {0}))
       → CheckCoordinatesCall.Learnt κs (bytes, (at, (d, (cosine, tt)))) r (bytes, (at, (d, (cosine, tt))))
-      → r ≡ checked (values_test cosine (map value_of (patterns d (part bytes.now at (4 * d)))))
+      → r ≡ (values_test cosine (map value_of (patterns d (part bytes.now at (4 * d)))))

@@ -1,14 +1,13 @@
 -- The captions of deleted records do not count, in the code's answers: two snapshots that `read_snapshot` accepts and that differ in
 -- nothing else, lengths included, are recovered with one log and equal tables lent to the same answer, the same tables and the same
 -- records, snapshot CRC and row offsets excepted.
-use Rattle.std.specs.Prelude.{ℕ, ◌≡◌, List}
+use Rattle.std.specs.Prelude.{ℕ, ◌≡◌, List, Ok, Err}
 use Rattle.fields.specs.Fields.{Bytes}
 use Rattle.snapshot.specs.declared.SnapshotInfo.{SnapshotInfo}
-use Rattle.snapshot.specs.declared.ReadSnapshot.TheVariants as Snapshots
 use Rattle.theorems.specs.DeletedCaptions.{DifferInDeleted, SameButPlaces}
-use Rattle.recovery.specs.declared.Recovery.{Recovery}
+use Rattle.recovery.specs.Told.{Recovery}
 use Rattle.recovery.specs.declared.RecoveryInfo.{RecoveryInfo}
-use Rattle.recovery.specs.declared.Recovery.TheVariants as Recoveries
+use Rattle.recovery.specs.declared.NotRecovered.TheVariants as Refusals
 use Rattle.promises.specs.Recover.{RecoverMeets, compared_shown}
 use Rattle.promises.specs.Store.{ReadSnapshotMeets}
 
@@ -29,9 +28,9 @@ crc_left_out i =
     }
 
 abbrev pub without_crc : Recovery → Recovery
-without_crc (Recoveries.Recovered i) = Recoveries.Recovered (crc_left_out i)
-without_crc (Recoveries.RefusedSnapshot why) = Recoveries.RefusedSnapshot why
-without_crc (Recoveries.RefusedLog why at) = Recoveries.RefusedLog why at
+without_crc (Ok i) = Ok (crc_left_out i)
+without_crc (Err (Refusals.Snapshot why)) = Err (Refusals.Snapshot why)
+without_crc (Err (Refusals.Log why at)) = Err (Refusals.Log why at)
 
 -- of two snapshots beside one log: two answers, and the row words and active entries after
 pub record SameButCrcAndPlaces (s s' log : List ℕ) (r r' : Recovery) (rows rows' active active' : List ℕ) : Type 0 where
@@ -42,7 +41,7 @@ pub record SameButCrcAndPlaces (s s' log : List ℕ) (r r' : Recovery) (rows row
 pub record CaptionsOfDeleted : Type 0 where
   pub captions_of_deleted : (s s' log words entries : List ℕ) → Bytes s → Bytes s' → Bytes log → DifferInDeleted s s'
       → (i i' : SnapshotInfo) (x x' y y' : List ℕ)
-      → ReadSnapshotMeets s words entries (Snapshots.Accepted i) x y → ReadSnapshotMeets s' words entries (Snapshots.Accepted i') x' y'
+      → ReadSnapshotMeets s words entries (Ok i) x y → ReadSnapshotMeets s' words entries (Ok i') x' y'
       → (r r' : Recovery) (rows rows' active active' : List ℕ)
       → RecoverMeets s log words entries r rows active → RecoverMeets s' log words entries r' rows' active'
       → SameButCrcAndPlaces s s' log r r' rows rows' active active'

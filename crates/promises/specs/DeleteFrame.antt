@@ -1,7 +1,6 @@
 -- What the playout host's delete leaves in its buffer: nothing, or a frame that is read back from a log as that delete; and the recovery
 -- of a log with that frame behind it.
-use Rattle.std.specs.Prelude.{ℕ, ◌+◌, ◌≤◌, ◌<◌, ◌^◌, ◌≡◌, ◌⊎◌, true, List, [], ◌∷◌, ◌++◌, length, take, drop}
-use Rattle.refusal.specs.Refusal.{answer}
+use Rattle.std.specs.Prelude.{ℕ, ◌+◌, ◌≤◌, ◌<◌, ◌^◌, ◌≡◌, ◌⊎◌, true, List, [], ◌∷◌, ◌++◌, length, take, drop, Ok, Some}
 use Rattle.config.specs.Limits.{max_log_bytes}
 use Rattle.config.specs.declared.Config.{Config}
 use Rattle.layout.specs.declared.Shape.TheVariants.{Single}
@@ -17,7 +16,6 @@ use Rattle.meaning.specs.Recovery.{Recovered, recovered, recover, rows_of, recor
 use Rattle.meaning.specs.Log.{frames_of}
 use Rattle.meaning.specs.Encoder.{delete_frame}
 use Rattle.meaning.specs.Calls.{recover_tables}
-use Rattle.views.specs.declared.Found.TheVariants as Founds
 use Rattle.theorems.specs.FrameLists.{last_sequence}
 use Rattle.theorems.specs.FrameRows.{Follows}
 use Rattle.theorems.specs.DeleteAppended.{NotOlder, with_deleted}
@@ -44,7 +42,7 @@ pub record DeleteLeft (sequence id : ℕ) (out after : List ℕ) : Type 0 where
   -- is r's and one; the ID is live; the log has room. Then recovery of the log with the 29 bytes behind it accepts with that ID deleted
   -- (`mark`), its caption empty, the sequence and the replayed frames one more, 29 bytes more kept, and all else as it was
   pub recovers : (lent : ℕ) (snapshot log : List ℕ) (r : Recovered) → recover lent snapshot log ≡ recovered r
-      → (S : Snapshot) → read_snapshot lent snapshot ≡ answer S → NotOlder S log → tail_length log r ≡ 0
+      → (S : Snapshot) → read_snapshot lent snapshot ≡ Ok S → NotOlder S log → tail_length log r ≡ 0
       → sequence ≡ r.state.sequence + 1 → sequence < 256 ^ 8 → id < 256 ^ 8
       → active (row_kind r.config.dimensions) id (rows_of r) ≡ true → length log + 29 ≤ max_log_bytes
       → recover lent snapshot (log ++ take 29 after) ≡ recovered (with_deleted id r)
@@ -61,5 +59,5 @@ pub record DeleteFrame : Type 0 where
   -- an ID is live if `lookup` finds it in the tables that recovery left
   pub found_is_live : (words active' snapshot log : List ℕ) (r : Recovered) → Bytes snapshot → Bytes log
       → recover (rows_lent words active') snapshot log ≡ recovered r
-      → (id : Id) (node : Node) → LookupMeets (recover_tables words active' (recovered r)).rows (record_count r) id (Founds.Node node)
+      → (id : Id) (node : Node) → LookupMeets (recover_tables words active' (recovered r)).rows (record_count r) id (Ok (Some node))
       → active (row_kind r.config.dimensions) id.0 (rows_of r) ≡ true

@@ -11,9 +11,9 @@ use Rattle.meaning.specs.Views.{lookup, view}
 use Rattle.meaning.specs.Calls.{read_call, read_tables, recover_call, recover_tables, output_after}
 use Rattle.snapshot.specs.Told.{read_told}
 use Rattle.recovery.specs.Told.{recovery_answer}
-use Rattle.views.specs.Told.{found_told, viewed}
+use Rattle.views.specs.Told.{found_told}
 use Rattle.graph.specs.Neighbours.{neighbours}
-use Rattle.graph.specs.Told.{cache_told, starts_after, shown_told}
+use Rattle.graph.specs.Told.{cache_told, starts_after}
 use Rattle.store_log.specs.Told.{frame_told, operation_told}
 use Rattle.lambspool.specs.Asked.{frame_asked, operation_asked, cache_asked, write_asked, encode_asked}
 use Rattle.listing_text.specs.Listing.{fitted, first_line_call, node_line_call}
@@ -128,10 +128,10 @@ pub record DoorCalls : Type 0 where
       → Gives (found_said (found_told (lookup rows.now count id))) (λ r. LookupCall.Learnt κs (rows, (count, (id, tt))) r (rows, (count, (id, tt))))
   -- lambspool_caption(snapshot, log, rows, count, node, d)
   pub door_caption_one_answer : (κs : _) (snapshot log rows : Bor (List ℕ)) (count node d : ℕ)
-      → Gives (part_said (viewed (view Caption d rows.now count node snapshot.now log.now))) (λ r. CaptionCall.Learnt κs (snapshot, (log, (rows, (count, (node, (d, tt)))))) r (snapshot, (log, (rows, (count, (node, (d, tt)))))))
+      → Gives (part_said ((view Caption d rows.now count node snapshot.now log.now))) (λ r. CaptionCall.Learnt κs (snapshot, (log, (rows, (count, (node, (d, tt)))))) r (snapshot, (log, (rows, (count, (node, (d, tt)))))))
   -- lambspool_vector(snapshot, log, rows, count, node, d)
   pub door_vector_one_answer : (κs : _) (snapshot log rows : Bor (List ℕ)) (count node d : ℕ)
-      → Gives (part_said (viewed (view Vector d rows.now count node snapshot.now log.now))) (λ r. VectorCall.Learnt κs (snapshot, (log, (rows, (count, (node, (d, tt)))))) r (snapshot, (log, (rows, (count, (node, (d, tt)))))))
+      → Gives (part_said ((view Vector d rows.now count node snapshot.now log.now))) (λ r. VectorCall.Learnt κs (snapshot, (log, (rows, (count, (node, (d, tt)))))) r (snapshot, (log, (rows, (count, (node, (d, tt)))))))
   pub door_read_cache_contract : (κs : _) (bytes : Bor (List ℕ)) (d m ef seed metric crc sequence count : ℕ) (starts : MutBor (List ℕ)) (r : Cache) (starts' : MutBor (List ℕ))
       → ReadCacheCall.Learnt κs (bytes, (d, (m, (ef, (seed, (metric, (crc, (sequence, (count, (starts, tt)))))))))) r
       (bytes, (d, (m, (ef, (seed, (metric, (crc, (sequence, (count, (starts', tt))))))))))
@@ -140,7 +140,7 @@ pub record DoorCalls : Type 0 where
       → OneEach (DoorReadCacheMeets bytes d m ef seed metric crc sequence count starts)
   -- lambspool_neighbours(cache, starts, count, node, level)
   pub door_neighbours_one_answer : (κs : _) (cache starts : Bor (List ℕ)) (count node level : ℕ)
-      → Gives (neighbours_said (shown_told (neighbours cache.now starts.now count node level))) (λ r. NeighboursCall.Learnt κs (cache, (starts, (count, (node, (level, tt))))) r (cache, (starts, (count, (node, (level, tt))))))
+      → Gives (neighbours_said (neighbours cache.now starts.now count node level)) (λ r. NeighboursCall.Learnt κs (cache, (starts, (count, (node, (level, tt))))) r (cache, (starts, (count, (node, (level, tt))))))
   pub door_write_contract : (κs : _) (d m ef seed metric sequence : ℕ) (rows : Bor (List ℕ)) (count : ℕ) (snapshot log : Bor (List ℕ)) (out : MutBor (List ℕ)) (r : Bytes) (after : MutBor (List ℕ))
       → WriteCall.Learnt κs (d, (m, (ef, (seed, (metric, (sequence, (rows, (count, (snapshot, (log, (out, tt))))))))))) r
       (d, (m, (ef, (seed, (metric, (sequence, (rows, (count, (snapshot, (log, (after, tt)))))))))))

@@ -7,11 +7,10 @@
 -- `links::set_link`, `links::attach`: each word as such; said is what every cell holds, and the rows
 -- `tree::mark`, `tree::put`, `tree::begin`: the links in the words; said are the rows, and what the tree finds
 -- `replay::apply_frame`: the tree likewise; after a refusal, what the tables hold
+use Rattle.refusal.specs.Refusal.{Answer}
 use Rattle.std.specs.Prelude.{ℕ, ◌*◌, ◌≡◌, Bool, List, ◌∷◌, ◌++◌, length, take, drop, replicate}
 use Rattle.std.specs.Borrow.{Bor, MutBor}
 use Rattle.refusal.specs.declared.Refusal.{Refusal}
-use Rattle.refusal.specs.declared.Measured.{Measured}
-use Rattle.refusal.specs.Refusal.{checked, measured}
 use Rattle.crc32.specs.Crc.{all_ones, bytes_in, crc_of}
 use Rattle.config.specs.declared.Config.{Config}
 use Rattle.layout.specs.Layout.{caption_offset, item_length, record_length, frame_head}
@@ -80,7 +79,7 @@ use Rattle.pieces.proofs.none.Reads as PiecesNoneCall
 use Rattle.pieces.proofs.finish.Reads as PiecesFinishCall
 use Rattle.tree.proofs.find.Reads as FindCall
 use Rattle.tree.proofs.finish.Reads as TreeFinishCall
-use Rattle.promises.specs.OneAnswer.{One, OneEach, OneOfThree, OneView, Gives, LentAfter}
+use Rattle.promises.specs.OneAnswer.{One, OneEach, OneOfThree, OneView, Gives, GivesOk, LentAfter}
 
 -- ---- crc32
 pub record Crc32Helpers : Type 0 where
@@ -126,7 +125,7 @@ pub record FieldsHelpers : Type 0 where
 pub record CoordinatesHelpers : Type 0 where
   -- check_coordinates(bytes, at, d, cosine)
   pub check_coordinates_one_answer : (κs : _) (bytes : Bor (List ℕ)) (at d : ℕ) (cosine : Bool)
-      → Gives (checked (coordinates_of cosine d (part bytes.now at (4 * d)))) (λ r. CheckCoordinatesCall.Learnt κs (bytes, (at, (d, (cosine, tt)))) r (bytes, (at, (d, (cosine, tt)))))
+      → Gives ((coordinates_of cosine d (part bytes.now at (4 * d)))) (λ r. CheckCoordinatesCall.Learnt κs (bytes, (at, (d, (cosine, tt)))) r (bytes, (at, (d, (cosine, tt)))))
 
 -- ---- rows
 pub record RowsHelpers : Type 0 where
@@ -171,10 +170,10 @@ pub record SortingHelpers : Type 0 where
 pub record ItemsHelpers : Type 0 where
   -- check_caption(config, bytes, end, at)
   pub check_caption_one_answer : (κs : _) (config : Config) (bytes : Bor (List ℕ)) (end at : ℕ)
-      → Gives (measured (caption_at config bytes.now end at)) (λ r. CheckCaptionCall.Learnt κs (config, (bytes, (end, (at, tt)))) r (config, (bytes, (end, (at, tt)))))
+      → Gives ((caption_at config bytes.now end at)) (λ r. CheckCaptionCall.Learnt κs (config, (bytes, (end, (at, tt)))) r (config, (bytes, (end, (at, tt)))))
   -- check_item(short, config, bytes, end, at)
   pub check_item_one_answer : (κs : _) (short : Refusal) (config : Config) (bytes : Bor (List ℕ)) (end at : ℕ)
-      → Gives (measured (item_at short config bytes.now end at)) (λ r. CheckItemCall.Learnt κs (short, (config, (bytes, (end, (at, tt))))) r (short, (config, (bytes, (end, (at, tt))))))
+      → Gives ((item_at short config bytes.now end at)) (λ r. CheckItemCall.Learnt κs (short, (config, (bytes, (end, (at, tt))))) r (short, (config, (bytes, (end, (at, tt))))))
 
 -- ---- active
 -- clear(rows, entries): both tables, after
@@ -183,8 +182,8 @@ pub record ClearMeets (rows entries rows' entries' : List ℕ) : Type 0 where
   pub entries_are : entries' ≡ replicate (length entries) 0
 
 -- activate(rows, count, entries): the answer and both tables, after
-pub record ActivateMeets (rows : List ℕ) (count : ℕ) (entries : List ℕ) (r : Measured) (rows' entries' : List ℕ) : Type 0 where
-  pub result_is : r ≡ measured (activated (rows_in count rows))
+pub record ActivateMeets (rows : List ℕ) (count : ℕ) (entries : List ℕ) (r : Answer ℕ) (rows' entries' : List ℕ) : Type 0 where
+  pub result_is : r ≡ (activated (rows_in count rows))
   pub rows_are : rows' ≡ left_rows count rows
   pub entries_are : entries' ≡ left_entries count rows entries
 
@@ -192,7 +191,7 @@ pub record ActiveHelpers : Type 0 where
   pub clear_contract : (κs : _) (rows entries rows' entries' : MutBor (List ℕ)) → ClearCall.Learnt κs (rows, (entries, tt)) tt (rows', (entries', tt))
       → ClearMeets rows.now entries.now rows'.now entries'.now
   pub clear_one_answer : (rows entries : List ℕ) → OneEach (ClearMeets rows entries)
-  pub activate_contract : (κs : _) (rows : MutBor (List ℕ)) (count : ℕ) (entries : MutBor (List ℕ)) (r : Measured) (rows' entries' : MutBor (List ℕ))
+  pub activate_contract : (κs : _) (rows : MutBor (List ℕ)) (count : ℕ) (entries : MutBor (List ℕ)) (r : Answer ℕ) (rows' entries' : MutBor (List ℕ))
       → ActivateCall.Learnt κs (rows, (count, (entries, tt))) r (rows', (count, (entries', tt)))
       → ActivateMeets rows.now count entries.now r rows'.now entries'.now
   pub activate_one_answer : (rows : List ℕ) (count : ℕ) (entries : List ℕ) → OneOfThree (ActivateMeets rows count entries)
@@ -222,7 +221,7 @@ pub record LogHelpers : Type 0 where
       → Gives (operation_told (Meant.operation_at config log.now end tag at)) (λ r. ReadOperationCall.Learnt κs (config, (log, (end, (tag, (at, tt))))) r (config, (log, (end, (tag, (at, tt))))))
   -- stored_operation(config, log, end, tag, at)
   pub stored_operation_one_answer : (κs : _) (config : Config) (log : Bor (List ℕ)) (end tag at : ℕ)
-      → Gives (operation_told (Meant.operation_at config log.now end tag at)) (λ r. StoredOperationCall.Learnt κs (config, (log, (end, (tag, (at, tt))))) r (config, (log, (end, (tag, (at, tt))))))
+      → GivesOk (operation_told (Meant.operation_at config log.now end tag at)) (λ r. StoredOperationCall.Learnt κs (config, (log, (end, (tag, (at, tt))))) r (config, (log, (end, (tag, (at, tt))))))
   -- read_frame(tables, config, log, previous, at)
   pub read_frame_one_answer : (κs : _) (tables : Bor (List ℕ)) (config : Config) (log : Bor (List ℕ)) (previous at : ℕ)
       → Gives (frame_told (Meant.frame_at config log.now previous at)) (λ r. ReadFrameCall.Learnt κs (tables, (config, (log, (previous, (at, tt))))) r (tables, (config, (log, (previous, (at, tt))))))

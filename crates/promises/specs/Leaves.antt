@@ -3,13 +3,13 @@ use Rattle.std.specs.Prelude.{ℕ, ◌*◌, ◌%◌, ◌^◌, ◌≤◌, ◌≡�
 use Rattle.std.specs.Int.Bits.{bit_xor}
 use Rattle.std.specs.Borrow.{Bor, MutBor}
 use Rattle.refusal.specs.declared.Refusal.{Refusal}
-use Rattle.refusal.specs.Refusal.{number, checked}
+use Rattle.refusal.specs.Refusal.{number}
 use Rattle.crc32.specs.Crc.{all_ones, bytes_in, crc_of}
 use Rattle.crc32.specs.Steps.{Rows}
 use Rattle.utf8.specs.Utf8.{is_utf8, valid_front}
 use Rattle.config.specs.declared.Metric.{Metric}
 use Rattle.config.specs.declared.Config.{Config}
-use Rattle.config.specs.Settings.{defaults, with_m, with_ef, with_seed, with_metric, in_range, validate, caption_limit, metric_of, metric_told, metric_number, is_cosine}
+use Rattle.config.specs.Settings.{defaults, with_m, with_ef, with_seed, with_metric, in_range, validate, caption_limit, metric_of, metric_number, is_cosine}
 use Rattle.layout.specs.declared.Version.{Version}
 use Rattle.layout.specs.Layout.{metric_length, header_length}
 use Rattle.fields.specs.Fields.{field8, field32, field64}
@@ -88,7 +88,7 @@ pub record Utf8Calls : Type 0 where
 -- ---- config
 pub record ConfigCalls : Type 0 where
   -- Metric::from_u32(v)
-  pub metric_from_one_answer : (κs : _) (v : ℕ) → Gives (metric_told (metric_of v)) (λ r. MetricFromCall.Learnt κs (v, tt) r (v, tt))
+  pub metric_from_one_answer : (κs : _) (v : ℕ) → Gives ((metric_of v)) (λ r. MetricFromCall.Learnt κs (v, tt) r (v, tt))
   -- Metric::number(self)
   pub metric_number_one_answer : (κs : _) (self : Metric) → Gives (metric_number self) (λ r. MetricNumberCall.Learnt κs (self, tt) r (self, tt))
   -- Metric::is_cosine(self)
@@ -108,7 +108,7 @@ pub record ConfigCalls : Type 0 where
   pub with_metric_one_answer : (κs : _) (self : Config) (metric : Metric)
       → Gives (with_metric self metric) (λ r. WithMetricCall.Learnt κs (self, (metric, tt)) r (self, (metric, tt)))
   -- Config::validate(self)
-  pub validate_one_answer : (κs : _) (self : Config) → Gives (checked (validate self)) (λ r. ValidateCall.Learnt κs (self, tt) r (self, tt))
+  pub validate_one_answer : (κs : _) (self : Config) → Gives ((validate self)) (λ r. ValidateCall.Learnt κs (self, tt) r (self, tt))
   -- Config::caption_limit(self)
   pub caption_limit_one_answer : (κs : _) (self : Config) → Gives (caption_limit self) (λ r. CaptionLimitCall.Learnt κs (self, tt) r (self, tt))
   -- in_range(x, low, high)
@@ -154,7 +154,7 @@ pub record FieldsCalls : Type 0 where
 pub record CoordinatesCalls : Type 0 where
   -- check_bits(patterns, cosine)
   pub check_bits_one_answer : (κs : _) (patterns : Bor (List ℕ)) (cosine : Bool)
-      → Gives (checked (vector_of cosine patterns.now)) (λ r. CheckBitsCall.Learnt κs (patterns, (cosine, tt)) r (patterns, (cosine, tt)))
+      → Gives ((vector_of cosine patterns.now)) (λ r. CheckBitsCall.Learnt κs (patterns, (cosine, tt)) r (patterns, (cosine, tt)))
 
 -- ---- rows
 pub record RowsCalls : Type 0 where

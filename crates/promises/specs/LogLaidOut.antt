@@ -1,7 +1,7 @@
 -- Layouts that the code read: the log that `recover` accepted is its frames laid out, byte for byte, up to `keep`, and one that it refused
 -- up to the byte that it named; the bytes of a frame that `frame_at` found are its layout.
-use Rattle.std.specs.Prelude.{ℕ, ◌+◌, ◌-◌, ◌≡◌, List, ◌++◌, length, take, drop}
-use Rattle.refusal.specs.Refusal.{answer}
+use Rattle.refusal.specs.Refusal.{Answer}
+use Rattle.std.specs.Prelude.{ℕ, ◌+◌, ◌-◌, ◌≡◌, List, ◌++◌, length, take, drop, Ok, Err, Option, Some}
 use Rattle.refusal.specs.declared.Refusal.{Refusal}
 use Rattle.fields.specs.Fields.{part, Bytes}
 use Rattle.config.specs.Settings.{validate}
@@ -11,12 +11,10 @@ use Rattle.meaning.specs.Records.{Record}
 use Rattle.meaning.specs.Snapshot.{Snapshot, read_snapshot}
 use Rattle.meaning.specs.Log.{frames_of}
 use Rattle.store_log.specs.declared.Frame.{Frame}
-use Rattle.store_log.specs.declared.ReadFrame.{ReadFrame}
-use Rattle.store_log.specs.declared.ReadFrame.TheVariants as Frames
 use Rattle.theorems.specs.FrameRows.{Follows}
 use Rattle.theorems.specs.LogLaidOut.{layout_of, layouts_of, FrameFits, FramesFit, frames_shown, BeforeRefusal}
 use Rattle.recovery.specs.declared.RecoveryInfo.{RecoveryInfo}
-use Rattle.recovery.specs.declared.Recovery.TheVariants as Recoveries
+use Rattle.recovery.specs.declared.NotRecovered.TheVariants as Refusals
 use Rattle.promises.specs.Recover.{Recovers}
 use Rattle.promises.specs.Store.{FrameAtMeets}
 
@@ -54,14 +52,14 @@ pub record WholeLaidOut (config : Config) (log : List ℕ) (previous at : ℕ) (
 
 pub record LogLaidOut : Type 0 where
   pub recovered_is_its_frames : (lent : ℕ) (snapshot log : List ℕ) → Bytes snapshot → Bytes log
-      → (i : RecoveryInfo) (words : List ℕ) → Recovers lent snapshot log (Recoveries.Recovered i) words → RecoveredLaidOut snapshot log i
+      → (i : RecoveryInfo) (words : List ℕ) → Recovers lent snapshot log (Ok i) words → RecoveredLaidOut snapshot log i
   -- where the log is refused: up to the byte that is named
   pub refused_is_its_frames : (lent : ℕ) (snapshot log : List ℕ) → Bytes log → (why : Refusal) (at : ℕ) (words : List ℕ)
-      → Recovers lent snapshot log (Recoveries.RefusedLog why at) words
-      → (S : Snapshot) → read_snapshot lent snapshot ≡ answer S → BeforeRefusal S.config snapshot log at
+      → Recovers lent snapshot log (Err (Refusals.Log why at)) words
+      → (S : Snapshot) → read_snapshot lent snapshot ≡ Ok S → BeforeRefusal S.config snapshot log at
   pub whole_is_its_layout : (config : Config) (log : List ℕ) (previous at : ℕ) (f : Frame) → Bytes log
-      → FrameAtMeets config log previous at (Frames.Whole f) → WholeLaidOut config log previous at f
+      → FrameAtMeets config log previous at (Ok (Some f)) → WholeLaidOut config log previous at f
   -- the other way: with valid settings, where a layout stands behind a frame that it can follow, `frame_at` finds it
-  pub layout_is_whole : (config : Config) (log : List ℕ) (previous : ℕ) (f : Replays.Frame Record) (rest : List ℕ) → validate config ≡ answer tt
+  pub layout_is_whole : (config : Config) (log : List ℕ) (previous : ℕ) (f : Replays.Frame Record) (rest : List ℕ) → validate config ≡ Ok tt
       → FrameFits config f → Follows previous f.sequence → drop f.start log ≡ layout_of f ++ rest
-      → (r : ReadFrame) → FrameAtMeets config log previous f.start r → r ≡ Frames.Whole (frame_laid f)
+      → (r : Answer (Option Frame)) → FrameAtMeets config log previous f.start r → r ≡ Ok (Some (frame_laid f))

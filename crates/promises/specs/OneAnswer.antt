@@ -2,7 +2,8 @@
 -- A call whose contract is one equation has a statement `…_one_answer`, by `Gives` or `LentAfter`. Of another call, or of one that other
 -- statements speak of: `…Meets` is what its contract says of a result and of what was lent, in the contract's own words; `…_contract`:
 -- what a caller learns from the contract in the source is this; `…_one_answer`: nothing is left to choose.
-use Rattle.std.specs.Prelude.{◌≡◌, List, ℕ}
+use Rattle.std.specs.Prelude.{◌≡◌, List, ℕ, Ok}
+use Rattle.refusal.specs.Refusal.{Answer}
 use Rattle.std.specs.Borrow.{Bor, MutBor}
 
 -- one thing: a result, or what was lent, after
@@ -23,6 +24,11 @@ OneView Meets = (r s : Bor (List ℕ)) → Meets r → Meets s → (r.ref_ptr �
 -- that the contract permits are the same.
 pub record Gives {A : Type 0} (meant : A) (Learnt : A → Type 0) : Type 0 where
   pub contract : (r : A) → Learnt r → r ≡ meant
+  pub one_answer : One Learnt
+
+-- the same of a call that is made only where the definition does not refuse
+pub record GivesOk {A : Type 0} (meant : Answer A) (Learnt : A → Type 0) : Type 0 where
+  pub contract : (r : A) → Learnt r → meant ≡ Ok r
   pub one_answer : One Learnt
 
 -- the same of what was lent, after

@@ -1,5 +1,5 @@
 -- The call `recover`, told as `OneAnswer` says; and what an answer shows with the row words beside it.
-use Rattle.std.specs.Prelude.{ℕ, ◌+◌, ◌≡◌, List, map}
+use Rattle.std.specs.Prelude.{ℕ, ◌+◌, ◌≡◌, List, map, Ok, Err}
 use Rattle.std.specs.Borrow.{Bor, MutBor}
 use Rattle.rows.specs.Lent.{rows_lent}
 use Rattle.meaning.specs.Records.{Record, seen}
@@ -7,10 +7,9 @@ use Rattle.meaning.specs.Recovery.{Recovered}
 use Rattle.meaning.specs.Tables.{rows_in}
 use Rattle.meaning.specs.Calls.{recover_call, recover_tables}
 use Rattle.theorems.specs.Compared.{Compared, accepts, refuses, refuses_snapshot, Brief, holds, no_state}
-use Rattle.recovery.specs.declared.Recovery.{Recovery}
+use Rattle.recovery.specs.Told.{Recovery, recovery_answer}
 use Rattle.recovery.specs.declared.RecoveryInfo.{RecoveryInfo}
-use Rattle.recovery.specs.Told.{recovery_answer}
-use Rattle.recovery.specs.declared.Recovery.TheVariants as Recoveries
+use Rattle.recovery.specs.declared.NotRecovered.TheVariants as Refusals
 use Rattle.recovery.proofs.recover.Reads as RecoverCall
 use Rattle.promises.specs.OneAnswer.{OneOfThree}
 
@@ -50,12 +49,12 @@ records_shown snapshot log i words = map (seen i.config.dimensions snapshot log)
 
 -- what demand 3 compares: settings, records, sequence, replayed plus skipped, tail; or the refusal and its byte
 abbrev pub compared_shown : List ℕ → List ℕ → Recovery → List ℕ → Compared
-compared_shown snapshot log (Recoveries.Recovered i) words = accepts i.config (records_shown snapshot log i words) i.sequence (i.replayed + i.skipped) i.tail
-compared_shown snapshot log (Recoveries.RefusedSnapshot why) words = refuses_snapshot why
-compared_shown snapshot log (Recoveries.RefusedLog why at) words = refuses why at
+compared_shown snapshot log (Ok i) words = accepts i.config (records_shown snapshot log i words) i.sequence (i.replayed + i.skipped) i.tail
+compared_shown snapshot log (Err (Refusals.Snapshot why)) words = refuses_snapshot why
+compared_shown snapshot log (Err (Refusals.Log why at)) words = refuses why at
 
 -- the same without the count of frames, for a log without its front
 abbrev pub brief_shown : List ℕ → List ℕ → Recovery → List ℕ → Brief
-brief_shown snapshot log (Recoveries.Recovered i) words = holds i.config (records_shown snapshot log i words) i.sequence i.tail
-brief_shown snapshot log (Recoveries.RefusedSnapshot why) words = no_state
-brief_shown snapshot log (Recoveries.RefusedLog why at) words = no_state
+brief_shown snapshot log (Ok i) words = holds i.config (records_shown snapshot log i words) i.sequence i.tail
+brief_shown snapshot log (Err (Refusals.Snapshot why)) words = no_state
+brief_shown snapshot log (Err (Refusals.Log why at)) words = no_state

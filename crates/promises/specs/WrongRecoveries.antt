@@ -1,6 +1,5 @@
 -- The five wrong recoveries of document 01 ("What we hold each contract to"), each shut out by the contract of `recover`.
-use Rattle.std.specs.Prelude.{ℕ, ◌<◌, ◌^◌, ◌≡◌, List, length, take}
-use Rattle.refusal.specs.Refusal.{answer}
+use Rattle.std.specs.Prelude.{ℕ, ◌<◌, ◌^◌, ◌≡◌, List, length, take, Ok}
 use Rattle.fields.specs.Fields.{Bytes}
 use Rattle.rows.specs.Lent.{rows_lent}
 use Rattle.meaning.specs.Every.{Every}
@@ -8,9 +7,8 @@ use Rattle.meaning.specs.Snapshot.{Snapshot, read_snapshot}
 use Rattle.meaning.specs.Log.{frames_of}
 use Rattle.theorems.specs.Cut.{Cut, place}
 use Rattle.theorems.specs.EachFrameOnce.{up_to, above}
-use Rattle.recovery.specs.declared.Recovery.{Recovery}
+use Rattle.recovery.specs.Told.{Recovery}
 use Rattle.recovery.specs.declared.RecoveryInfo.{RecoveryInfo}
-use Rattle.recovery.specs.declared.Recovery.TheVariants as Recoveries
 use Rattle.promises.specs.Recover.{RecoverMeets, records_shown}
 
 -- any recovery at all: what it answers and what it leaves in the tables, of a snapshot, a log, row words and active entries
@@ -27,23 +25,23 @@ module _ (f : AnyRecovery) where
 
   -- one that refuses all
   abbrev pub RefusesAll : Type 0
-  RefusesAll = (snapshot log rows active : List ℕ) (i : RecoveryInfo) → f.answers snapshot log rows active ≡ Recoveries.Recovered i → ⊥
+  RefusesAll = (snapshot log rows active : List ℕ) (i : RecoveryInfo) → f.answers snapshot log rows active ≡ Ok i → ⊥
 
   -- one constant answer, wherever it accepts
   abbrev pub OneConstant : Type 0
   OneConstant = (snapshot log rows active snapshot' log' rows' active' : List ℕ) (i j : RecoveryInfo)
-      → f.answers snapshot log rows active ≡ Recoveries.Recovered i → f.answers snapshot' log' rows' active' ≡ Recoveries.Recovered j → i ≡ j
+      → f.answers snapshot log rows active ≡ Ok i → f.answers snapshot' log' rows' active' ≡ Ok j → i ≡ j
 
   -- the same records wherever it accepts, as they are seen through the rows it leaves
   abbrev pub SameRecords : Type 0
   SameRecords = (snapshot log rows active snapshot' log' rows' active' : List ℕ) (i j : RecoveryInfo)
-      → f.answers snapshot log rows active ≡ Recoveries.Recovered i → f.answers snapshot' log' rows' active' ≡ Recoveries.Recovered j
+      → f.answers snapshot log rows active ≡ Ok i → f.answers snapshot' log' rows' active' ≡ Ok j
       → records_shown snapshot log i (f.rows_after snapshot log rows active) ≡ records_shown snapshot' log' j (f.rows_after snapshot' log' rows' active')
 
   -- the same row words in the same tables, wherever it accepts
   abbrev pub SameRows : Type 0
   SameRows = (snapshot log snapshot' log' rows active : List ℕ) (i j : RecoveryInfo)
-      → f.answers snapshot log rows active ≡ Recoveries.Recovered i → f.answers snapshot' log' rows active ≡ Recoveries.Recovered j
+      → f.answers snapshot log rows active ≡ Ok i → f.answers snapshot' log' rows active ≡ Ok j
       → f.rows_after snapshot log rows active ≡ f.rows_after snapshot' log' rows active
 
   -- one that writes no row word, and one that writes no active entry
@@ -66,8 +64,8 @@ module _ (f : AnyRecovery) where
   -- replayed and skipped are those of the definition's frame list, not invented
   abbrev pub CountsTheFrames : Type 0
   CountsTheFrames = (snapshot log rows active : List ℕ) → Bytes snapshot → Bytes log → Every (λ x. x < 2 ^ 64) rows → Every (λ x. x < 2 ^ 32) active
-      → (i : RecoveryInfo) → f.answers snapshot log rows active ≡ Recoveries.Recovered i
-      → (S : Snapshot) → read_snapshot (rows_lent rows active) snapshot ≡ answer S
+      → (i : RecoveryInfo) → f.answers snapshot log rows active ≡ Ok i
+      → (S : Snapshot) → read_snapshot (rows_lent rows active) snapshot ≡ Ok S
       → (i.replayed ≡ length (above S.sequence (frames_of S.config log).frames)) × (i.skipped ≡ length (up_to S.sequence (frames_of S.config log).frames))
 
 -- no recovery that keeps the contract is like this

@@ -5,12 +5,6 @@
 use std::io;
 use std::io::{ErrorKind, Read};
 
-#[derive(Clone, Copy)]
-enum Length {
-    Bytes(usize),
-    End,
-}
-
 fn main(rt: HostRuntime) -> io::Result<()> {
     let mut request = [0u8; 65536];
     let mut words = [0u64; 12288];
@@ -55,9 +49,8 @@ fn answer_next(
     output: &mut [u8],
     answer: &mut [u8],
 ) -> io::Result<bool> {
-    let n = match next_length(input)? {
-        Length::Bytes(n) => n,
-        Length::End => return Ok(false),
+    let Some(n) = next_length(input)? else {
+        return Ok(false);
     };
     if request.len() < n {
         return too_large(rt);
@@ -78,14 +71,15 @@ fn too_large(rt: &impl Print) -> io::Result<bool> {
     Ok(false)
 }
 
-fn next_length(input: &mut impl Read) -> io::Result<Length> {
+// The next request's length, or `None` where the input ends.
+fn next_length(input: &mut impl Read) -> io::Result<Option<usize>> {
     let mut head = [0u8; 4];
     if !read_full(input, &mut head)? {
-        return Ok(Length::End);
+        return Ok(None);
     }
     let low = wide(head[0]) + wide(head[1]) * 256;
     let high = wide(head[2]) + wide(head[3]) * 256;
-    Ok(Length::Bytes(low + high * 65536))
+    Ok(Some(low + high * 65536))
 }
 
 // Whether the input had as many bytes.

@@ -1,15 +1,14 @@
 -- The rows of a table once its tree is taken out, and what finishing it answers and leaves.
+use Rattle.refusal.specs.Refusal.{Answer}
+use Rattle.std.specs.Prelude.{Ok, Err}
 use Prim.Native.Nat.{ℕ, ◌*◌}
 use mathlib.Core.Path.{◌≡◌, refl, sym, ap, ap₂, subst, ◌∙◌}
 use mathlib.Core.Bool.{false, true≢false}
 use mathlib.Core.List.{List, ◌++◌}
 use lib.ListN.{length, take, drop}
 use Rattle.rows.specs.declared.Row.{Row}
-use Rattle.refusal.specs.Refusal.{measured}
 use Rattle.refusal.specs.declared.Refusal.{Refusal}
-use Rattle.refusal.specs.declared.Measured.{Measured}
-use Rattle.refusal.specs.declared.Measured.TheVariants as Measures
-use Rattle.refusal.proofs.Inverses.{from_measured, measured_is}
+use Rattle.refusal.proofs.Inverses.{came_to}
 use Rattle.active.specs.Active.{activated, left_rows, left_entries}
 use Rattle.active.proofs.Finishing.{activated_live, activated_twice, rows_left, entries_left}
 use Rattle.snapshot.specs.declared.SnapshotInfo.{SnapshotInfo}
@@ -23,7 +22,7 @@ use Rattle.tree_meaning.proofs.TreeMeans.{means_once, finished_table}
 use Rattle.replay.specs.Stands.{TableStands}
 use Rattle.recovery.specs.Told.{recovery_answer, recovered_told}
 use Rattle.recovery.specs.Run.{state_of, ends_in, RecoversAs}
-use Rattle.recovery.specs.declared.Recovery.{Recovery}
+use Rattle.recovery.specs.declared.RecoveryInfo.{RecoveryInfo}
 use Rattle.recovery.specs.declared.Reached.{Reached}
 
 module _ (info : SnapshotInfo) (log words entries : List ℕ) (r : Reached) (records : List Row) (s : TableStands info.config.dimensions words entries r.table records)
@@ -37,24 +36,24 @@ module _ (info : SnapshotInfo) (log words entries : List ℕ) (r : Reached) (rec
   once : live_twice records ≡ false
   once = means_once (plain_rows words) records s.packs s.holds (subst (Once (plain_rows words)) s.counted s.grown.once)
 
-  activity : (x y : Measured) → x ≡ measured (activated (rows_in r.table.tree.count words₁)) → x ≡ y → activated records ≡ from_measured y
-  activity x y e k = measured_is (activated records) (e ∙ ap (λ (l : List Row). measured (activated l)) rows_back) k
+  activity : (x y : Answer ℕ) → x ≡ activated (rows_in r.table.tree.count words₁) → x ≡ y → activated records ≡ y
+  activity x y e k = came_to (activated records) (e ∙ ap activated rows_back) k
 
   -- no ID is live twice
-  pub never_twice : (x : Measured) (why : Refusal) → x ≡ measured (activated (rows_in r.table.tree.count words₁)) → x ≡ Measures.Refused why → ⊥
-  never_twice x why e k = true≢false (sym (activated_twice records why (activity x (Measures.Refused why) e k)) ∙ once)
+  pub never_twice : (x : Answer ℕ) (why : Refusal) → x ≡ activated (rows_in r.table.tree.count words₁) → x ≡ Err why → ⊥
+  never_twice x why e k = true≢false (sym (activated_twice records why (activity x (Err why) e k)) ∙ once)
 
-  answers : (active : ℕ) → active ≡ live_count records → recovered_told info (length log) active r ≡ recovery_answer log (ends_in info (state_of r records) r.keep)
+  answers : (active : ℕ) → active ≡ live_count records → Ok (recovered_told info (length log) active r) ≡ recovery_answer log (ends_in info (state_of r records) r.keep)
   answers active e = rw (e, s.counted, s.sized) refl
 
-  pub finish_recovers : (n : ℕ) (x : Measured) → x ≡ measured (activated (rows_in r.table.tree.count words₁)) → x ≡ Measures.Length n
-      → (y : Recovery) → y ≡ recovered_told info (length log) n r → length words₁ ≡ length words
+  pub finish_recovers : (n : ℕ) (x : Answer ℕ) → x ≡ activated (rows_in r.table.tree.count words₁) → x ≡ Ok n
+      → (y : RecoveryInfo) → y ≡ recovered_told info (length log) n r → length words₁ ≡ length words
       → (words₂ entries₂ : List ℕ) → words₂ ≡ left_rows r.table.tree.count words₁ → entries₂ ≡ left_entries r.table.tree.count words₁ entries
-      → RecoversAs log words entries (ends_in info (state_of r records) r.keep) y words₂ entries₂
+      → RecoversAs log words entries (ends_in info (state_of r records) r.keep) (Ok y) words₂ entries₂
   finish_recovers n x e k y told same words₂ entries₂ a b =
-      let live = activated_live records n (activity x (Measures.Length n) e k) in
+      let live = activated_live records n (activity x (Ok n) e k) in
       record {
-        told = told ∙ answers n live.count_is;
+        told = ap (λ (i : RecoveryInfo). Ok i) told ∙ answers n live.count_is;
         rows_left = a
             ∙ rows_left records r.table.tree.count words₁ entries rows_back once s.counted (drop (2 * length records) words) table_is
             ∙ ap (λ (k : ℕ). filled k (row_words records)) same;

@@ -1,4 +1,5 @@
 -- What a snapshot's reading leaves, from its answer.
+use Rattle.std.specs.Prelude.{Ok, Err}
 use Prim.Native.Nat.{ℕ, ◌/◌, ◌≤◌, min}
 use native.Mathlib.Omega.{arith}
 use mathlib.Core.Path.{◌≡◌, refl, sym, ap, ap₂, subst, ◌∙◌}
@@ -6,12 +7,10 @@ use mathlib.Core.List.{List}
 use lib.ListN.{length}
 use Rattle.config.specs.Limits.{max_records}
 use Rattle.rows.specs.Lent.{rows_lent}
-use Rattle.refusal.specs.Refusal.{Result, answer, refused}
+use Rattle.refusal.specs.Refusal.{Answer}
 use Rattle.refusal.specs.declared.Refusal.{Refusal}
 use Rattle.snapshot.specs.Told.{read_told}
 use Rattle.snapshot.specs.declared.SnapshotInfo.{SnapshotInfo}
-use Rattle.snapshot.specs.declared.ReadSnapshot.{ReadSnapshot}
-use Rattle.snapshot.specs.declared.ReadSnapshot.TheVariants as Snapshots
 use Rattle.snapshot.proofs.BodyLaws.{InSnapshot, parts_within}
 use Rattle.meaning.specs.Calls.{read_call, read_tables}
 use Rattle.meaning.specs.Records.{row_kind}
@@ -36,30 +35,30 @@ info_for x =
       size = size (row_kind x.config.dimensions) x.rows;
     }
 
-pub record SnapshotFound (r : Result Snapshot) (info : SnapshotInfo) : Type 0 where
+pub record SnapshotFound (r : Answer Snapshot) (info : SnapshotInfo) : Type 0 where
   pub value : Snapshot
-  pub is : r ≡ answer value
+  pub is : r ≡ Ok value
   pub told : info ≡ info_for value
 
-abbrev IsAccepted : ReadSnapshot → Type 0
-IsAccepted (Snapshots.Accepted i) = Unit {0}
-IsAccepted (Snapshots.Refused why) = ⊥
+abbrev IsAccepted : Answer SnapshotInfo → Type 0
+IsAccepted (Ok i) = Unit {0}
+IsAccepted (Err why) = ⊥
 
-abbrev info_or : SnapshotInfo → ReadSnapshot → SnapshotInfo
-info_or z (Snapshots.Accepted i) = i
-info_or z (Snapshots.Refused why) = z
+abbrev info_or : SnapshotInfo → Answer SnapshotInfo → SnapshotInfo
+info_or z (Ok i) = i
+info_or z (Err why) = z
 
-pub snapshot_found : (r : Result Snapshot) (info : SnapshotInfo) → read_told r ≡ Snapshots.Accepted info → SnapshotFound r info
-snapshot_found (answer x) info e = record { value = x; is = refl; told = sym (ap (info_or info) e) }
-snapshot_found (refused why) info e = absurd (subst IsAccepted (sym e) tt)
+pub snapshot_found : (r : Answer Snapshot) (info : SnapshotInfo) → read_told r ≡ Ok info → SnapshotFound r info
+snapshot_found (Ok x) info e = record { value = x; is = refl; told = sym (ap (info_or info) e) }
+snapshot_found (Err why) info e = absurd (subst IsAccepted (sym e) tt)
 
-abbrev why_or : Refusal → ReadSnapshot → Refusal
-why_or z (Snapshots.Accepted i) = z
-why_or z (Snapshots.Refused why) = why
+abbrev why_or : Refusal → Answer SnapshotInfo → Refusal
+why_or z (Ok i) = z
+why_or z (Err why) = why
 
-pub snapshot_refused : (r : Result Snapshot) (why : Refusal) → read_told r ≡ Snapshots.Refused why → r ≡ refused why
-snapshot_refused (answer x) why e = absurd (subst IsAccepted e tt)
-snapshot_refused (refused w) why e = ap refused (ap (why_or why) e)
+pub snapshot_refused : (r : Answer Snapshot) (why : Refusal) → read_told r ≡ Err why → r ≡ Err why
+snapshot_refused (Ok x) why e = absurd (subst IsAccepted e tt)
+snapshot_refused (Err w) why e = ap Err (ap (why_or why) e)
 
 pub lent_same : (words entries words' entries' : List ℕ) → length words' ≡ length words → length entries' ≡ length entries → rows_lent words' entries' ≡ rows_lent words entries
 lent_same words entries words' entries' a b = ap₂ (λ (m n : ℕ). min (min (m / 2) max_records) n) a b
@@ -88,6 +87,6 @@ module _ (words entries snapshot : List ℕ) (info : SnapshotInfo) (f : Snapshot
         packs = k.packs;
         spares = every_map InSnapshot Spares (λ r h. omega arith) x.rows k.offsets;
         once = read.once;
-        rows_are = p ∙ ap (λ (r : Result Snapshot). (read_tables words entries r).rows) f.is ∙ ap (λ (n : ℕ). filled n (row_words x.rows)) (sym a);
-        active_are = q ∙ ap (λ (r : Result Snapshot). (read_tables words entries r).active) f.is ∙ ap (λ (n : ℕ). filled n (active_nodes x.rows)) (sym b);
+        rows_are = p ∙ ap (λ (r : Answer Snapshot). (read_tables words entries r).rows) f.is ∙ ap (λ (n : ℕ). filled n (row_words x.rows)) (sym a);
+        active_are = q ∙ ap (λ (r : Answer Snapshot). (read_tables words entries r).active) f.is ∙ ap (λ (n : ℕ). filled n (active_nodes x.rows)) (sym b);
       })

@@ -1,11 +1,12 @@
 -- What recovery comes to: where a log's tail begins, what frames reached or why they were refused, and the tables that a refusal leaves.
+use Rattle.std.specs.Prelude.{Ok, Err, Result}
 use Prim.Native.Nat.{ℕ, ◌-◌, ◌≤◌}
 use mathlib.Core.Path.{◌≡◌, refl, sym, ap, ap₂, subst, ◌∙◌}
 use mathlib.Core.List.{List, [], ◌∷◌}
 use lib.ListN.{length, replicate}
 use Rattle.config.specs.declared.Config.{Config}
 use Rattle.rows.specs.declared.Row.{Row}
-use Rattle.refusal.specs.Refusal.{Result, answer, refused}
+use Rattle.refusal.specs.Refusal.{Answer}
 use Rattle.refusal.specs.declared.Refusal.{Refusal}
 use Rattle.sorting.specs.Sorting.{sorted_nodes}
 use Rattle.snapshot.specs.declared.SnapshotInfo.{SnapshotInfo}
@@ -17,13 +18,11 @@ use Rattle.meaning.specs.Log.{frames_at}
 use Rattle.meaning.specs.Replay.{Kind, Frame, End, tail, bad, State, Outcome, reached, stopped, Bounds, step, run, onward}
 use Rattle.meaning.specs.Tables.{Tables, row_words, live_from}
 use Rattle.meaning.proofs.FramesAt.{tail_bounds}
-use Rattle.recovery.specs.Told.{recovery_answer}
+use Rattle.recovery.specs.Told.{recovery_answer, Recovery}
 use Rattle.recovery.specs.Run.{run_from, skipped_only, Reaches, ReachedAs, Left, ends_in, RecoversAs}
-use Rattle.recovery.specs.declared.Recovery.{Recovery}
-use Rattle.recovery.specs.declared.Recovery.TheVariants as Recoveries
+use Rattle.recovery.specs.declared.NotRecovered.TheVariants as Refusals
 use Rattle.recovery.specs.declared.Reached.{Reached}
-use Rattle.recovery.specs.declared.Replayed.{Replayed}
-use Rattle.recovery.specs.declared.Replayed.TheVariants as Replays
+use Rattle.recovery.specs.declared.RefusedFrame.{RefusedFrame}
 
 -- ---- a log that was replayed to its end ends in a tail
 abbrev IsReached : {A : Type 0} → Outcome A → Type 0
@@ -42,9 +41,9 @@ module _ {A : Type 0} (K : Kind A) (bounds : Bounds) (snapshot : ℕ) where
   run_tail (f ∷ fs) end s s' keep e = go (λ s1. run_tail fs end s1 s' keep) (step K bounds snapshot f s) e
     where
       go : ((s1 : State A) → run K bounds snapshot fs end s1 ≡ reached s' keep → end ≡ tail keep)
-          → (x : Result (State A)) → onward f.start x (run K bounds snapshot fs end) ≡ reached s' keep → end ≡ tail keep
-      go again (answer s1) e = again s1 e
-      go again (refused why) e = absurd (subst IsReached (sym e) tt)
+          → (x : Answer (State A)) → onward f.start x (run K bounds snapshot fs end) ≡ reached s' keep → end ≡ tail keep
+      go again (Ok s1) e = again s1 e
+      go again (Err why) e = absurd (subst IsReached (sym e) tt)
 
 -- the tail begins inside the log or at its end
 pub keep_inside : (c : Config) (log : List ℕ) (bounds : Bounds) (snapshot previous at : ℕ) (s s' : State Row) (keep : ℕ) → at ≤ length log
@@ -60,17 +59,17 @@ pub record WasReached (d : ℕ) (words entries : List ℕ) (o : Outcome Row) (x 
   pub is : o ≡ reached state keep
   pub there : ReachedAs d words entries state keep x
 
-pub was_reached : (d : ℕ) (o : Outcome Row) (r : Replayed) (x : Reached) (words entries : List ℕ) → Reaches d o r words entries → r ≡ Replays.Reached x
+pub was_reached : (d : ℕ) (o : Outcome Row) (r : Result Reached RefusedFrame) (x : Reached) (words entries : List ℕ) → Reaches d o r words entries → r ≡ Ok x
     → WasReached d words entries o x
 was_reached d (reached s k) r x words entries h e =
-    record { state = s; keep = k; is = refl; there = subst (λ (y : Replayed). Reaches d (reached s k) y words entries) e h }
-was_reached d (stopped why at) r x words entries h e = absurd (subst (λ (y : Replayed). Reaches d (stopped why at) y words entries) e h)
+    record { state = s; keep = k; is = refl; there = subst (λ (y : Result Reached RefusedFrame). Reaches d (reached s k) y words entries) e h }
+was_reached d (stopped why at) r x words entries h e = absurd (subst (λ (y : Result Reached RefusedFrame). Reaches d (stopped why at) y words entries) e h)
 
-pub was_stopped : (d : ℕ) (o : Outcome Row) (r : Replayed) (why : Refusal) (at : ℕ) (words entries : List ℕ) → Reaches d o r words entries → r ≡ Replays.Refused why at
+pub was_stopped : (d : ℕ) (o : Outcome Row) (r : Result Reached RefusedFrame) (why : Refusal) (at : ℕ) (words entries : List ℕ) → Reaches d o r words entries → r ≡ Err (record { 0 = why; 1 = at })
     → o ≡ stopped why at
-was_stopped d (reached s k) r why at words entries h e = absurd (subst (λ (y : Replayed). Reaches d (reached s k) y words entries) e h)
+was_stopped d (reached s k) r why at words entries h e = absurd (subst (λ (y : Result Reached RefusedFrame). Reaches d (reached s k) y words entries) e h)
 was_stopped d (stopped w k) r why at words entries h e =
-    let p = subst (λ (y : Replayed). Reaches d (stopped w k) y words entries) e h in ap₂ stopped (sym p.0) (sym p.1)
+    let p = subst (λ (y : Result Reached RefusedFrame). Reaches d (stopped w k) y words entries) e h in ap₂ stopped (sym p.0) (sym p.1)
 
 -- ---- the tables that are left are those of any lent tables as long
 tables_same : (words entries words' entries' : List ℕ) → length words' ≡ length words → length entries' ≡ length entries
@@ -92,7 +91,7 @@ recovers_for log words entries words' entries' a b x y e r words'' entries'' k =
 -- ---- a refusal leaves zeros
 pub refused_recovers : (log words entries : List ℕ) (x : Meant.Recovery) (why : Refusal) (at : ℕ) → x ≡ Meant.refused_log why at
     → (words' entries' : List ℕ) → words' ≡ replicate (length words) 0 → entries' ≡ replicate (length entries) 0
-    → RecoversAs log words entries x (Recoveries.RefusedLog why at) words' entries'
+    → RecoversAs log words entries x (Err (Refusals.Log why at)) words' entries'
 unfolding row_words live_from sorted_nodes
 refused_recovers log words entries x why at e words' entries' a b =
     record {
@@ -105,7 +104,7 @@ refused_recovers log words entries x why at e words' entries' a b =
 pub tail_recovers : (info : SnapshotInfo) (log words entries : List ℕ) (rows : List Row) (x : Meant.Recovery) (keep skipped : ℕ) → Left info words entries rows
     → x ≡ ends_in info (skipped_only info.sequence rows skipped) keep
     → RecoversAs log words entries x
-    (Recoveries.Recovered
+    (Ok
     (record {
       config = info.config;
       crc = info.crc;

@@ -1,4 +1,5 @@
 -- The run of a log's frames by turns: a frame that was told, what one frame does to a state, and the run from there on.
+use Rattle.std.specs.Prelude.{Ok, Err, Some, None, Result}
 use Prim.Native.Nat.{ℕ, suc, ◌+◌, ◌-◌, ◌≤◌, ◌<◌}
 use native.Mathlib.Omega.{arith}
 use mathlib.Core.Path.{◌≡◌, refl, sym, ap, subst, ◌∙◌}
@@ -7,7 +8,7 @@ use mathlib.Core.List.{List}
 use borrow.Author.Tests.{le-leb, lt-leb, eq-eqb, ne_eqb}
 use lib.Dec.{leb, eqb}
 use lib.ListN.{length}
-use Rattle.refusal.specs.Refusal.{Result, answer, refused, ◌>>=◌}
+use Rattle.refusal.specs.Refusal.{Answer, ◌>>=◌}
 use Rattle.refusal.specs.declared.Refusal.{Refusal}
 use Rattle.refusal.specs.declared.Refusal.TheVariants.{GapAfterSnapshot}
 use Rattle.refusal.proofs.Results.{stop, pass, went, passed, answer_injective}
@@ -20,16 +21,12 @@ use Rattle.meaning.proofs.FrameRead.{frame_bounds}
 use Rattle.meaning.proofs.FramesAt.{frames_of_lem, frames_at_tail, frames_at_bad, frames_at_found}
 use Rattle.store_log.specs.Told.{frame_found, frame_told}
 use Rattle.store_log.specs.declared.Frame.{Frame as LogFrame}
-use Rattle.store_log.specs.declared.ReadFrame.TheVariants as Reads
 use Rattle.replay.specs.Stands.{TableStands, Kept, AppliedAs}
 use Rattle.replay.specs.declared.Table.{Table}
-use Rattle.replay.specs.declared.Applied.{Applied}
-use Rattle.replay.specs.declared.Applied.TheVariants as Applieds
 use Rattle.store_log.specs.Stored.{IsFrame}
 use Rattle.recovery.specs.Run.{run_from, skipped_only, state_of, ReachedAs, Steps}
 use Rattle.recovery.specs.declared.Reached.{Reached}
-use Rattle.recovery.specs.declared.Replayed.{Replayed}
-use Rattle.recovery.specs.declared.Replayed.TheVariants as Replays
+use Rattle.recovery.specs.declared.RefusedFrame.{RefusedFrame}
 
 -- ---- what was told
 -- a frame that was read behind one of the sequence `previous`, or behind none
@@ -39,10 +36,10 @@ pub record WasRead (c : Config) (log : List ℕ) (previous at : ℕ) (frame : Lo
   pub told : frame ≡ frame_found meant frame.next
 
 module _ (c : Config) (log : List ℕ) (previous at : ℕ) where
-  pub told_whole : (frame : LogFrame) → Reads.Whole frame ≡ frame_told (frame_at c log previous at) → WasRead c log previous at frame
+  pub told_whole : (frame : LogFrame) → Ok (Some frame) ≡ frame_told (frame_at c log previous at) → WasRead c log previous at frame
   told_whole frame e = go (frame_at c log previous at) refl e
     where
-      go : (x : ReadFrame) → frame_at c log previous at ≡ x → Reads.Whole frame ≡ frame_told x → WasRead c log previous at frame
+      go : (x : ReadFrame) → frame_at c log previous at ≡ x → Ok (Some frame) ≡ frame_told x → WasRead c log previous at frame
       go too_little h g = absurd (let z : ◌≡◌ {A = ℕ} 0 1 = cc in omega arith)
       go (wrong why) h g = absurd (let z : ◌≡◌ {A = ℕ} 0 1 = cc in omega arith)
       go (found f next) h g =
@@ -50,18 +47,18 @@ module _ (c : Config) (log : List ℕ) (previous at : ℕ) where
           let next_is : next ≡ frame.next = sym (ap (λ (x : LogFrame). x.next) same) in
           record { meant = f; there = h ∙ ap (found f) next_is; told = same ∙ ap (frame_found f) next_is }
 
-  pub told_little : Reads.TooLittle ≡ frame_told (frame_at c log previous at) → frame_at c log previous at ≡ too_little
+  pub told_little : Ok None ≡ frame_told (frame_at c log previous at) → frame_at c log previous at ≡ too_little
   told_little e = go (frame_at c log previous at) e
     where
-      go : (x : ReadFrame) → Reads.TooLittle ≡ frame_told x → x ≡ too_little
+      go : (x : ReadFrame) → Ok None ≡ frame_told x → x ≡ too_little
       go too_little g = refl
       go (wrong why) g = absurd (let z : ◌≡◌ {A = ℕ} 0 1 = cc in omega arith)
       go (found f next) g = absurd (let z : ◌≡◌ {A = ℕ} 0 1 = cc in omega arith)
 
-  pub told_wrong : (why : Refusal) → Reads.Refused why ≡ frame_told (frame_at c log previous at) → frame_at c log previous at ≡ wrong why
+  pub told_wrong : (why : Refusal) → Err why ≡ frame_told (frame_at c log previous at) → frame_at c log previous at ≡ wrong why
   told_wrong why e = go (frame_at c log previous at) e
     where
-      go : (x : ReadFrame) → Reads.Refused why ≡ frame_told x → x ≡ wrong why
+      go : (x : ReadFrame) → Err why ≡ frame_told x → x ≡ wrong why
       go too_little g = absurd (let z : ◌≡◌ {A = ℕ} 0 1 = cc in omega arith)
       go (wrong w) g = let same : w ≡ why = cc in ap wrong same
       go (found f next) g = absurd (let z : ◌≡◌ {A = ℕ} 0 1 = cc in omega arith)
@@ -106,25 +103,25 @@ read_is c log previous at frame r =
 
 -- ---- one frame
 module _ (d : ℕ) (bounds : Bounds) (snapshot : ℕ) (f : Frame Row) (s : State Row) where
-  abbrev stepped : Result (State Row)
+  abbrev stepped : Answer (State Row)
   stepped = step (row_kind d) bounds snapshot f s
 
-  pub step_skips : f.sequence ≤ snapshot → stepped ≡ answer (skip s)
+  pub step_skips : f.sequence ≤ snapshot → stepped ≡ Ok (skip s)
   unfolding step
-  step_skips h = ap (λ (b : Bool). cond b (answer (skip s)) (replay_frame (row_kind d) bounds f s)) (le-leb _ _ h)
+  step_skips h = ap (λ (b : Bool). cond b (Ok (skip s)) (replay_frame (row_kind d) bounds f s)) (le-leb _ _ h)
 
   step_replays : snapshot < f.sequence → stepped ≡ replay_frame (row_kind d) bounds f s
   unfolding step
-  step_replays h = ap (λ (b : Bool). cond b (answer (skip s)) (replay_frame (row_kind d) bounds f s)) (lt-leb _ _ h)
+  step_replays h = ap (λ (b : Bool). cond b (Ok (skip s)) (replay_frame (row_kind d) bounds f s)) (lt-leb _ _ h)
 
-  pub step_gap : snapshot < f.sequence → 0 < f.sequence → (f.sequence - 1 ≡ s.sequence → ⊥) → stepped ≡ refused GapAfterSnapshot
+  pub step_gap : snapshot < f.sequence → 0 < f.sequence → (f.sequence - 1 ≡ s.sequence → ⊥) → stepped ≡ Err GapAfterSnapshot
   unfolding replay_frame
   step_gap h p apart =
       let test : eqb f.sequence (s.sequence + 1) ≡ false = ne_eqb _ _ (λ (e : f.sequence ≡ s.sequence + 1). apart (omega arith)) in
       step_replays h ∙ stop GapAfterSnapshot (not (eqb f.sequence (s.sequence + 1))) _ (ap not test)
 
   pub step_plays : snapshot < f.sequence → f.sequence - 1 ≡ s.sequence
-      → stepped ≡ (apply_all (row_kind d) bounds f.shape f.operations s.records >>= λ records. answer (play f s records))
+      → stepped ≡ (apply_all (row_kind d) bounds f.shape f.operations s.records >>= λ records. Ok (play f s records))
   unfolding replay_frame
   step_plays h e =
       let next : f.sequence ≡ s.sequence + 1 = omega arith in
@@ -132,11 +129,11 @@ module _ (d : ℕ) (bounds : Bounds) (snapshot : ℕ) (f : Frame Row) (s : State
       step_replays h ∙ pass GapAfterSnapshot (not (eqb f.sequence (s.sequence + 1))) _ (ap not test)
 
   -- each frame counts once
-  pub step_counts : (t : State Row) → stepped ≡ answer t → t.replayed + t.skipped ≡ s.replayed + s.skipped + 1
+  pub step_counts : (t : State Row) → stepped ≡ Ok t → t.replayed + t.skipped ≡ s.replayed + s.skipped + 1
   unfolding step replay_frame
   step_counts t e = go (leb f.sequence snapshot) e
     where
-      go : (b : Bool) → cond b (answer (skip s)) (replay_frame (row_kind d) bounds f s) ≡ answer t → t.replayed + t.skipped ≡ s.replayed + s.skipped + 1
+      go : (b : Bool) → cond b (Ok (skip s)) (replay_frame (row_kind d) bounds f s) ≡ Ok t → t.replayed + t.skipped ≡ s.replayed + s.skipped + 1
       go true g =
           let same : skip s ≡ t = answer_injective (skip s) t g in
           let r : s.replayed ≡ t.replayed = ap (λ (x : State Row). x.replayed) same in
@@ -201,22 +198,22 @@ pub record Skipping (c : Config) (log : List ℕ) (snapshot previous at skipped 
 
 -- ---- what one frame leaves
 module _ (c : Config) (log : List ℕ) (bounds : Bounds) (snapshot : ℕ) (frame : LogFrame) (r : Reached) (f : Frame Row) (rows : List Row) (i : IsFrame c log frame f) where
-  abbrev LeavesBy : Result (State Row) → Replayed → List ℕ → List ℕ → Type 0
+  abbrev LeavesBy : Answer (State Row) → Result Reached RefusedFrame → List ℕ → List ℕ → Type 0
   LeavesBy = Steps c.dimensions frame.next frame.start
 
-  abbrev Leaves : Replayed → List ℕ → List ℕ → Type 0
+  abbrev Leaves : Result Reached RefusedFrame → List ℕ → List ℕ → Type 0
   Leaves = LeavesBy (step (row_kind c.dimensions) bounds snapshot f (state_of r rows))
 
-  abbrev skipped_here : Replayed
-  skipped_here = Replays.Reached (record { table = r.table; sequence = r.sequence; replayed = r.replayed; skipped = r.skipped + 1; keep = frame.next })
+  abbrev skipped_here : Result Reached RefusedFrame
+  skipped_here = Ok (record { table = r.table; sequence = r.sequence; replayed = r.replayed; skipped = r.skipped + 1; keep = frame.next })
 
-  abbrev played_here : Table → Replayed
-  played_here t = Replays.Reached (record { table = t; sequence = frame.sequence; replayed = r.replayed + 1; skipped = r.skipped; keep = frame.next })
+  abbrev played_here : Table → Result Reached RefusedFrame
+  played_here t = Ok (record { table = t; sequence = frame.sequence; replayed = r.replayed + 1; skipped = r.skipped; keep = frame.next })
 
-  abbrev refused_here : Refusal → Replayed
-  refused_here why = Replays.Refused why frame.start
+  abbrev refused_here : Refusal → Result Reached RefusedFrame
+  refused_here why = Err (record { 0 = why; 1 = frame.start })
 
-  abbrev applied : Result (List Row)
+  abbrev applied : Answer (List Row)
   applied = apply_all (row_kind c.dimensions) bounds f.shape f.operations rows
 
   same_sequence : f.sequence ≡ frame.sequence
@@ -240,17 +237,17 @@ module _ (c : Config) (log : List ℕ) (bounds : Bounds) (snapshot : ℕ) (frame
       (refl, refl)
 
   module _ (h : snapshot < frame.sequence) (next : frame.sequence - 1 ≡ r.sequence) where
-    plays : step (row_kind c.dimensions) bounds snapshot f (state_of r rows) ≡ (applied >>= λ records. answer (play f (state_of r rows) records))
+    plays : step (row_kind c.dimensions) bounds snapshot f (state_of r rows) ≡ (applied >>= λ records. Ok (play f (state_of r rows) records))
     plays = let same = same_sequence in step_plays c.dimensions bounds snapshot f (state_of r rows) (omega arith) (omega arith)
 
-    pub leaves_played : (x : Applied) (t : Table) (words entries : List ℕ) → x ≡ Applieds.Went t → AppliedAs c.dimensions applied x words entries
+    pub leaves_played : (x : Answer Table) (t : Table) (words entries : List ℕ) → x ≡ Ok t → AppliedAs c.dimensions applied x words entries
         → Leaves (played_here t) words entries
     leaves_played x t words entries e s =
         subst (λ y. LeavesBy y (played_here t) words entries) (sym plays) (go applied (subst (λ y. AppliedAs c.dimensions applied y words entries) e s))
       where
-        go : (y : Result (List Row)) → AppliedAs c.dimensions y (Applieds.Went t) words entries
-            → LeavesBy (y >>= λ records. answer (play f (state_of r rows) records)) (played_here t) words entries
-        go (answer records) s =
+        go : (y : Answer (List Row)) → AppliedAs c.dimensions y (Ok t) words entries
+            → LeavesBy (y >>= λ records. Ok (play f (state_of r rows) records)) (played_here t) words entries
+        go (Ok records) s =
             let same = same_sequence in
             let one : r.replayed + 1 ≡ suc r.replayed = omega arith in
             record {
@@ -260,17 +257,17 @@ module _ (c : Config) (log : List ℕ) (bounds : Bounds) (snapshot : ℕ) (frame
                   ∙ ap (λ (n : ℕ). record { records = records; sequence = f.sequence; replayed = n; skipped = r.skipped }) one;
               keep_is = refl;
             }
-        go (refused why) s = s
+        go (Err why) s = s
 
-    pub leaves_refused : (x : Applied) (why : Refusal) (words entries : List ℕ) → x ≡ Applieds.Refused why → AppliedAs c.dimensions applied x words entries
+    pub leaves_refused : (x : Answer Table) (why : Refusal) (words entries : List ℕ) → x ≡ Err why → AppliedAs c.dimensions applied x words entries
         → Leaves (refused_here why) words entries
     leaves_refused x why words entries e s =
         subst (λ y. LeavesBy y (refused_here why) words entries) (sym plays) (go applied (subst (λ y. AppliedAs c.dimensions applied y words entries) e s))
       where
-        go : (y : Result (List Row)) → AppliedAs c.dimensions y (Applieds.Refused why) words entries
-            → LeavesBy (y >>= λ records. answer (play f (state_of r rows) records)) (refused_here why) words entries
-        go (answer records) s = s
-        go (refused w) s = (s, refl)
+        go : (y : Answer (List Row)) → AppliedAs c.dimensions y (Err why) words entries
+            → LeavesBy (y >>= λ records. Ok (play f (state_of r rows) records)) (refused_here why) words entries
+        go (Ok records) s = s
+        go (Err w) s = (s, refl)
 
 -- ---- the frames that are replayed
 -- rows that stood at the beginning have come to rows that stand now, and the run from there is the run from here
@@ -291,35 +288,35 @@ pub record Going (c : Config) (log : List ℕ) (bounds : Bounds) (snapshot : ℕ
   pub on : (rows₀ : List Row) → TableStands c.dimensions words₀ entries₀ r₀.table rows₀ → On c log bounds snapshot r₀ previous₀ rows₀ words entries r previous
 
 -- the rows that one frame leaves, by the rows before
-pub record Stepped (d : ℕ) (words entries : List ℕ) (x : Result (State Row)) (next : ℕ) (r : Reached) : Type 0 where
+pub record Stepped (d : ℕ) (words entries : List ℕ) (x : Answer (State Row)) (next : ℕ) (r : Reached) : Type 0 where
   pub state : State Row
-  pub is : x ≡ answer state
+  pub is : x ≡ Ok state
   pub comes : ReachedAs d words entries state next r
 
-pub stepped_as : (d next start : ℕ) (x : Result (State Row)) (y : Replayed) (r : Reached) (words entries : List ℕ)
-    → y ≡ Replays.Reached r → Steps d next start x y words entries → Stepped d words entries x next r
+pub stepped_as : (d next start : ℕ) (x : Answer (State Row)) (y : Result Reached RefusedFrame) (r : Reached) (words entries : List ℕ)
+    → y ≡ Ok r → Steps d next start x y words entries → Stepped d words entries x next r
 stepped_as d next start x y r words entries e h = go x (subst (λ z. Steps d next start x z words entries) e h)
   where
-    go : (x : Result (State Row)) → Steps d next start x (Replays.Reached r) words entries → Stepped d words entries x next r
-    go (answer s) h = record { state = s; is = refl; comes = h }
-    go (refused why) h = absurd h
+    go : (x : Answer (State Row)) → Steps d next start x (Ok r) words entries → Stepped d words entries x next r
+    go (Ok s) h = record { state = s; is = refl; comes = h }
+    go (Err why) h = absurd h
 
 -- or its refusal
-pub record Stopped (x : Result (State Row)) (start : ℕ) (why : Refusal) (at : ℕ) : Type 0 where
-  pub is : x ≡ refused why
+pub record Stopped (x : Answer (State Row)) (start : ℕ) (why : Refusal) (at : ℕ) : Type 0 where
+  pub is : x ≡ Err why
   pub start_is : at ≡ start
 
-pub stopped_as : (d next start : ℕ) (x : Result (State Row)) (y : Replayed) (why : Refusal) (at : ℕ) (words entries : List ℕ)
-    → y ≡ Replays.Refused why at → Steps d next start x y words entries → Stopped x start why at
+pub stopped_as : (d next start : ℕ) (x : Answer (State Row)) (y : Result Reached RefusedFrame) (why : Refusal) (at : ℕ) (words entries : List ℕ)
+    → y ≡ Err (record { 0 = why; 1 = at }) → Steps d next start x y words entries → Stopped x start why at
 stopped_as d next start x y why at words entries e h = go x (subst (λ z. Steps d next start x z words entries) e h)
   where
-    go : (x : Result (State Row)) → Steps d next start x (Replays.Refused why at) words entries → Stopped x start why at
-    go (answer s) h = absurd h
-    go (refused w) h = record { is = ap refused (sym h.0); start_is = h.1 }
+    go : (x : Answer (State Row)) → Steps d next start x (Err (record { 0 = why; 1 = at })) words entries → Stopped x start why at
+    go (Ok s) h = absurd h
+    go (Err w) h = record { is = ap Err (sym h.0); start_is = h.1 }
 
 module _ (c : Config) (log : List ℕ) (bounds : Bounds) (snapshot previous : ℕ) (r : Reached) (frame : LogFrame) (rows : List Row)
     (read : WasRead c log previous r.keep frame) where
-  abbrev steps : Result (State Row)
+  abbrev steps : Answer (State Row)
   steps = step (row_kind c.dimensions) bounds snapshot read.meant (state_of r rows)
 
   facts : Found log r.keep frame read.meant

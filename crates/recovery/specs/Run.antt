@@ -1,6 +1,6 @@
 -- What recovery's steps come to: the frames that are skipped, one frame, those that are replayed, and the tables that are left.
-use Rattle.std.specs.Prelude.{ℕ, ◌≤◌, false, List, [], ◌≡◌, length}
-use Rattle.refusal.specs.Refusal.{Result, answer, refused}
+use Rattle.std.specs.Prelude.{ℕ, ◌≤◌, false, List, [], ◌≡◌, length, Result, Ok, Err}
+use Rattle.refusal.specs.Refusal.{Answer}
 use Rattle.config.specs.Limits.{max_dimensions, max_snapshot_bytes}
 use Rattle.config.specs.declared.Config.{Config}
 use Rattle.rows.specs.Lent.{rows_lent}
@@ -18,13 +18,11 @@ use Rattle.meaning.specs.Tables.{row_words, active_nodes, filled}
 use Rattle.snapshot.specs.declared.SnapshotInfo.{SnapshotInfo}
 use Rattle.tree_meaning.specs.Spares.{Spares}
 use Rattle.replay.specs.Stands.{TableStands}
-use Rattle.recovery.specs.Told.{recovery_answer}
-use Rattle.recovery.specs.declared.Recovery.{Recovery}
+use Rattle.recovery.specs.Told.{recovery_answer, Recovery}
 use Rattle.recovery.specs.declared.Reached.{Reached}
 use Rattle.recovery.specs.declared.Skipped.{Skipped}
 use Rattle.recovery.specs.declared.Skipped.TheVariants as Skips
-use Rattle.recovery.specs.declared.Replayed.{Replayed}
-use Rattle.recovery.specs.declared.Replayed.TheVariants as Replays
+use Rattle.recovery.specs.declared.RefusedFrame.{RefusedFrame}
 
 -- the frames from `at` on, where the frame before has the sequence `previous`, over a state
 abbrev pub run_from : Config → List ℕ → Bounds → ℕ → ℕ → ℕ → State Row → Outcome Row
@@ -36,13 +34,13 @@ abbrev pub skipped_only : ℕ → List Row → ℕ → State Row
 skipped_only snapshot rows k = record { records = rows; sequence = snapshot; replayed = 0; skipped = k }
 
 -- the whole log over a snapshot's rows is, after the frames that were skipped: the rest, a tail, or a refusal
-abbrev pub SkipsTo : Config → List ℕ → ℕ → Bounds → List Row → Skipped → Type 0
-SkipsTo c log snapshot bounds rows (Skips.More p) =
+abbrev pub SkipsTo : Config → List ℕ → ℕ → Bounds → List Row → Result Skipped RefusedFrame → Type 0
+SkipsTo c log snapshot bounds rows (Ok (Skips.More p)) =
     (p.at ≤ length log) × ((p.skipped ≤ p.at)
     × (replay (row_kind c.dimensions) bounds snapshot rows (frames_of c log) ≡ run_from c log bounds snapshot p.previous p.at (skipped_only snapshot rows p.skipped)))
-SkipsTo c log snapshot bounds rows (Skips.Ended keep k) =
+SkipsTo c log snapshot bounds rows (Ok (Skips.Ended keep k)) =
     (keep ≤ length log) × (replay (row_kind c.dimensions) bounds snapshot rows (frames_of c log) ≡ reached (skipped_only snapshot rows k) keep)
-SkipsTo c log snapshot bounds rows (Skips.Refused why at) = replay (row_kind c.dimensions) bounds snapshot rows (frames_of c log) ≡ stopped why at
+SkipsTo c log snapshot bounds rows (Err f) = replay (row_kind c.dimensions) bounds snapshot rows (frames_of c log) ≡ stopped f.0 f.1
 
 -- the state that was reached, with these rows
 abbrev pub state_of : Reached → List Row → State Row
@@ -55,18 +53,18 @@ pub record ReachedAs (d : ℕ) (words entries : List ℕ) (s : State Row) (keep 
   pub keep_is : r.keep ≡ keep
 
 -- what one frame leaves: the state that replay defines, with the next frame's first byte, or its refusal at its own
-abbrev pub Steps : ℕ → ℕ → ℕ → Result (State Row) → Replayed → List ℕ → List ℕ → Type 0
-Steps d next start (answer s) (Replays.Reached r) words entries = ReachedAs d words entries s next r
-Steps d next start (answer s) (Replays.Refused why at) words entries = ⊥
-Steps d next start (refused why) (Replays.Reached r) words entries = ⊥
-Steps d next start (refused why) (Replays.Refused w at) words entries = (w ≡ why) × (at ≡ start)
+abbrev pub Steps : ℕ → ℕ → ℕ → Answer (State Row) → Result Reached RefusedFrame → List ℕ → List ℕ → Type 0
+Steps d next start (Ok s) (Ok r) words entries = ReachedAs d words entries s next r
+Steps d next start (Ok s) (Err f) words entries = ⊥
+Steps d next start (Err why) (Ok r) words entries = ⊥
+Steps d next start (Err why) (Err f) words entries = (f.0 ≡ why) × (f.1 ≡ start)
 
 -- what all frames leave
-abbrev pub Reaches : ℕ → Outcome Row → Replayed → List ℕ → List ℕ → Type 0
-Reaches d (reached s keep) (Replays.Reached r) words entries = ReachedAs d words entries s keep r
-Reaches d (reached s keep) (Replays.Refused why at) words entries = ⊥
-Reaches d (stopped why at) (Replays.Reached r) words entries = ⊥
-Reaches d (stopped why at) (Replays.Refused w k) words entries = (w ≡ why) × (k ≡ at)
+abbrev pub Reaches : ℕ → Outcome Row → Result Reached RefusedFrame → List ℕ → List ℕ → Type 0
+Reaches d (reached s keep) (Ok r) words entries = ReachedAs d words entries s keep r
+Reaches d (reached s keep) (Err f) words entries = ⊥
+Reaches d (stopped why at) (Ok r) words entries = ⊥
+Reaches d (stopped why at) (Err f) words entries = (f.0 ≡ why) × (f.1 ≡ at)
 
 -- these rows are what a snapshot's reading left
 pub record Left (info : SnapshotInfo) (words entries : List ℕ) (rows : List Row) : Type 0 where

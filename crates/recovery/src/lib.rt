@@ -23,10 +23,10 @@ ghost use Rattle.recovery.specs.Told.{recovery_answer, recovered_told};
 ghost use Rattle.recovery.specs.Run.{run_from, skipped_only, SkipsTo, state_of, Steps, Reaches, Left, SomeLeft, snapshot_read, ends_in, RecoversAs};
 
 use config::Config;
-use refusal::{Measured, Refusal};
-use replay::{Applied, Table};
-use snapshot::{ReadSnapshot, SnapshotInfo};
-use store_log::{Frame, ReadFrame};
+use refusal::Refusal;
+use replay::Table;
+use snapshot::SnapshotInfo;
+use store_log::Frame;
 
 // `keep` is the first byte of the tail, `tail` its length, `size` the encoded size of all records.
 #[derive(Clone, Copy)]
@@ -43,13 +43,16 @@ pub struct RecoveryInfo {
     pub size: usize,
 }
 
-// A refusal in the log names its frame's first byte.
+// Why no store is recovered. A refusal in the log names its frame's first byte.
 #[derive(Clone, Copy)]
-pub enum Recovery {
-    Recovered(RecoveryInfo),
-    RefusedSnapshot(Refusal),
-    RefusedLog(Refusal, usize),
+pub enum NotRecovered {
+    Snapshot(Refusal),
+    Log(Refusal, usize),
 }
+
+// A refusal in the log, and its frame's first byte.
+#[derive(Clone, Copy)]
+struct RefusedFrame(Refusal, usize);
 
 // A byte of the log, the sequence of the frame before it or 0 where there is none, and how many frames were skipped before it.
 #[derive(Clone, Copy)]
@@ -64,7 +67,6 @@ struct Place {
 enum Skipped {
     More(Place),
     Ended(usize, usize),
-    Refused(Refusal, usize),
 }
 
 // `keep` is the first byte of the tail.
@@ -75,12 +77,6 @@ struct Reached {
     replayed: usize,
     skipped: usize,
     keep: usize,
-}
-
-#[derive(Clone, Copy)]
-enum Replayed {
-    Reached(Reached),
-    Refused(Refusal, usize),
 }
 
 // Whether the bytes at `at` would be a frame that follows the snapshot's: it is left to replay, so that no frame is decoded twice.
@@ -96,7 +92,12 @@ fn follows(log: &[u8], at: usize, sequence: u64) -> bool
 }
 
 // Frames at or below the snapshot's sequence, from the log's first byte on.
-fn skip_frames(tables: &[u32; 4096], config: Config, log: &[u8], sequence: u64) -> Skipped
+fn skip_frames(
+    tables: &[u32; 4096],
+    config: Config,
+    log: &[u8],
+    sequence: u64,
+) -> Result<Skipped, RefusedFrame>
     requires rows { Rows 16 tables.now }
     requires dimensions_le_max_dimensions { config.dimensions ≤ max_dimensions }
     requires log_len_bound { length log.now ≤ max_log_bytes }
@@ -107,35 +108,35 @@ fn skip_frames(tables: &[u32; 4096], config: Config, log: &[u8], sequence: u64) 
     let mut skipped: usize = 0;
     while at + layout::FRAME_HEAD <= log.len() {
         if follows(log, at, sequence) {
-            return Skipped::More(Place {
+            return Ok(Skipped::More(Place {
                 previous,
                 at,
                 skipped,
-            });
+            }));
         }
         match store_log::read_frame(tables, config, log, previous, at) {
-            ReadFrame::TooLittle => {
-                return Skipped::Ended(at, skipped);
+            Ok(None) => {
+                return Ok(Skipped::Ended(at, skipped));
             }
-            ReadFrame::Whole(frame) => {
+            Ok(Some(frame)) => {
                 // `follows` has left every such frame: tested so that no proof rests on it
                 if sequence < frame.sequence {
-                    return Skipped::More(Place {
+                    return Ok(Skipped::More(Place {
                         previous,
                         at,
                         skipped,
-                    });
+                    }));
                 }
                 previous = frame.sequence;
                 at = frame.next;
                 skipped += 1;
             }
-            ReadFrame::Refused(why) => {
-                return Skipped::Refused(why, at);
+            Err(why) => {
+                return Err(RefusedFrame(why, at));
             }
         }
     }
-    Skipped::Ended(at, skipped)
+    Ok(Skipped::Ended(at, skipped))
 }
 
 // One frame: skipped where the snapshot has it, otherwise 27, then its operations.
@@ -148,7 +149,7 @@ fn step(
     words: &mut [u64],
     entries: &mut [u32],
     reached: Reached,
-) -> Replayed
+) -> Result<Reached, RefusedFrame>
     requires dimensions_le_max_dimensions { config.dimensions ≤ max_dimensions }
     requires log_len_bound { length log.now ≤ max_log_bytes }
     requires lent_in_bounds { 2 * lent ≤ length words.old }
@@ -160,7 +161,7 @@ fn step(
 {
     let table = reached.table;
     if frame.sequence <= snapshot {
-        return Replayed::Reached(Reached {
+        return Ok(Reached {
             table,
             sequence: reached.sequence,
             replayed: reached.replayed,
@@ -169,17 +170,17 @@ fn step(
         });
     }
     if frame.sequence - 1 != reached.sequence {
-        return Replayed::Refused(Refusal::GapAfterSnapshot, frame.start);
+        return Err(RefusedFrame(Refusal::GapAfterSnapshot, frame.start));
     }
     match replay::apply_frame(config, log, lent, frame, words, entries, table) {
-        Applied::Went(table) => Replayed::Reached(Reached {
+        Ok(table) => Ok(Reached {
             table,
             sequence: frame.sequence,
             replayed: reached.replayed + 1,
             skipped: reached.skipped,
             keep: frame.next,
         }),
-        Applied::Refused(why) => Replayed::Refused(why, frame.start),
+        Err(why) => Err(RefusedFrame(why, frame.start)),
     }
 }
 
@@ -194,7 +195,7 @@ fn replay_frames(
     words: &mut [u64],
     entries: &mut [u32],
     table: Table,
-) -> Replayed
+) -> Result<Reached, RefusedFrame>
     requires rows { Rows 16 tables.now }
     requires dimensions_le_max_dimensions { config.dimensions ≤ max_dimensions }
     requires log_len_bound { length log.now ≤ max_log_bytes }
@@ -214,39 +215,31 @@ fn replay_frames(
     };
     let mut previous = place.previous;
     while reached.keep + layout::FRAME_HEAD <= log.len() {
-        let at = reached.keep;
-        match store_log::read_frame(tables, config, log, previous, at) {
-            ReadFrame::TooLittle => {
-                return Replayed::Reached(reached);
+        match store_log::read_frame(tables, config, log, previous, reached.keep) {
+            Ok(None) => {
+                return Ok(reached);
             }
-            ReadFrame::Whole(frame) => {
-                match step(config, log, lent, snapshot, frame, words, entries, reached) {
-                    Replayed::Reached(next) => {
-                        reached = next;
-                        previous = frame.sequence;
-                    }
-                    Replayed::Refused(why, start) => {
-                        return Replayed::Refused(why, start);
-                    }
-                }
+            Ok(Some(frame)) => {
+                reached = step(config, log, lent, snapshot, frame, words, entries, reached)?;
+                previous = frame.sequence;
             }
-            ReadFrame::Refused(why) => {
-                return Replayed::Refused(why, at);
+            Err(why) => {
+                return Err(RefusedFrame(why, reached.keep));
             }
         }
     }
-    Replayed::Reached(reached)
+    Ok(reached)
 }
 
 // What an accepted recovery answers.
-fn recovered(info: SnapshotInfo, log: usize, active: usize, reached: Reached) -> Recovery
+fn recovered(info: SnapshotInfo, log: usize, active: usize, reached: Reached) -> RecoveryInfo
     requires { reached.keep ≤ log }
     ensures { result ≡ recovered_told info log active reached }
 {
     let config = info.config;
     let table = reached.table;
     let tree = table.tree;
-    Recovery::Recovered(RecoveryInfo {
+    RecoveryInfo {
         config,
         crc: info.crc,
         sequence: reached.sequence,
@@ -257,7 +250,7 @@ fn recovered(info: SnapshotInfo, log: usize, active: usize, reached: Reached) ->
         keep: reached.keep,
         tail: log - reached.keep,
         size: table.size,
-    })
+    }
 }
 
 // The tree is taken out of the rows again, and the active nodes are put in their place.
@@ -267,7 +260,7 @@ fn finish(
     rows: &mut [u64],
     active: &mut [u32],
     reached: Reached,
-) -> Recovery
+) -> Result<RecoveryInfo, NotRecovered>
     requires keep_in_bounds { reached.keep ≤ length log.now }
     requires kept { Kept info.config.dimensions rows.old active.old reached.table }
     ensures { (records : List Row) → TableStands info.config.dimensions rows.old active.old reached.table records → RecoversAs log.now rows.old active.old (ends_in info (state_of reached records) reached.keep) result rows.new active.new }
@@ -276,9 +269,9 @@ fn finish(
     let tree = table.tree;
     tree::finish(rows, tree);
     match active::activate(rows, tree.count, active) {
-        Measured::Length(n) => recovered(info, log.len(), n, reached),
+        Ok(n) => Ok(recovered(info, log.len(), n, reached)),
         // no ID is live twice in a table with its tree, so this does not come about
-        Measured::Refused(why) => Recovery::RefusedLog(why, reached.keep),
+        Err(why) => Err(NotRecovered::Log(why, reached.keep)),
     }
 }
 
@@ -290,7 +283,7 @@ fn replay_rest(
     place: Place,
     rows: &mut [u64],
     active: &mut [u32],
-) -> Recovery
+) -> Result<RecoveryInfo, NotRecovered>
     requires rows { Rows 16 tables.now }
     requires log_len_bound { length log.now ≤ max_log_bytes }
     requires at_in_bounds { place.at ≤ length log.now }
@@ -315,16 +308,21 @@ fn replay_rest(
         active,
         table,
     ) {
-        Replayed::Reached(reached) => finish(info, log, rows, active, reached),
-        Replayed::Refused(why, at) => {
+        Ok(reached) => finish(info, log, rows, active, reached),
+        Err(RefusedFrame(why, at)) => {
             active::clear(rows, active);
-            Recovery::RefusedLog(why, at)
+            Err(NotRecovered::Log(why, at))
         }
     }
 }
 
 // The log, over the rows that the snapshot's reading left.
-fn recover_log(info: SnapshotInfo, log: &[u8], rows: &mut [u64], active: &mut [u32]) -> Recovery
+fn recover_log(
+    info: SnapshotInfo,
+    log: &[u8],
+    rows: &mut [u64],
+    active: &mut [u32],
+) -> Result<RecoveryInfo, NotRecovered>
     requires log_len_bound { length log.now ≤ max_log_bytes }
     requires some_left { SomeLeft info rows.old active.old }
     ensures { (records : List Row) → Left info rows.old active.old records → RecoversAs log.now rows.old active.old (replay_log (rows_lent rows.old active.old) log.now (snapshot_read info records)) result rows.new active.new }
@@ -332,8 +330,8 @@ fn recover_log(info: SnapshotInfo, log: &[u8], rows: &mut [u64], active: &mut [u
     let tables = crc32::tables();
     let config = info.config;
     match skip_frames(&tables, config, log, info.sequence) {
-        Skipped::More(place) => replay_rest(&tables, info, log, place, rows, active),
-        Skipped::Ended(keep, skipped) => Recovery::Recovered(RecoveryInfo {
+        Ok(Skipped::More(place)) => replay_rest(&tables, info, log, place, rows, active),
+        Ok(Skipped::Ended(keep, skipped)) => Ok(RecoveryInfo {
             config,
             crc: info.crc,
             sequence: info.sequence,
@@ -345,25 +343,30 @@ fn recover_log(info: SnapshotInfo, log: &[u8], rows: &mut [u64], active: &mut [u
             tail: log.len() - keep,
             size: info.size,
         }),
-        Skipped::Refused(why, at) => {
+        Err(RefusedFrame(why, at)) => {
             active::clear(rows, active);
-            Recovery::RefusedLog(why, at)
+            Err(NotRecovered::Log(why, at))
         }
     }
 }
 
 // Recovers a store into two lent tables: two words for each record, and an entry for each live one.
-pub fn recover(snapshot: &[u8], log: &[u8], rows: &mut [u64], active: &mut [u32]) -> Recovery
+pub fn recover(
+    snapshot: &[u8],
+    log: &[u8],
+    rows: &mut [u64],
+    active: &mut [u32],
+) -> Result<RecoveryInfo, NotRecovered>
     ensures value { result ≡ recovery_answer log.now (recover_call rows.old active.old snapshot.now log.now) }
     ensures rows_after { rows.new ≡ (recover_tables rows.old active.old (recover_call rows.old active.old snapshot.now log.now)).rows }
     ensures active_after { active.new ≡ (recover_tables rows.old active.old (recover_call rows.old active.old snapshot.now log.now)).active }
 {
     if Config::MAX_LOG_BYTES < log.len() {
         active::clear(rows, active);
-        return Recovery::RefusedLog(Refusal::LogTooLong, 0);
+        return Err(NotRecovered::Log(Refusal::LogTooLong, 0));
     }
     match snapshot::read_snapshot(snapshot, rows, active) {
-        ReadSnapshot::Accepted(info) => recover_log(info, log, rows, active),
-        ReadSnapshot::Refused(why) => Recovery::RefusedSnapshot(why),
+        Ok(info) => recover_log(info, log, rows, active),
+        Err(why) => Err(NotRecovered::Snapshot(why)),
     }
 }

@@ -1,13 +1,7 @@
 -- Why something is refused, by document 01's number; and an answer that may be a refusal.
-use Rattle.std.specs.Prelude.{ℕ, Bool, true, false, List, length}
+use Rattle.std.specs.Prelude.{ℕ, Bool, true, false, List, length, Result, Ok, Err}
 use Rattle.refusal.specs.declared.Refusal.{Refusal}
 use Rattle.refusal.specs.declared.Refusal.TheVariants.{LengthOutOfBounds, WrongMagic, WrongVersion, PastTheEnd, WrongMetric, WrongDimensions, WrongM, WrongEf, WrongCount, WrongFlag, VectorPastTheEnd, NotFinite, VectorAllZero, CaptionTooLong, NotUtf8, BytesLeftOver, WrongFileCrc, ActiveTwice, TooFewRows, LogTooLong, WrongLengthCrc, WrongLength, WrongPayloadCrc, WrongSequence, WrongBatchCount, UnknownOperation, GapAfterSnapshot, StorageLimits, InactiveDelete, NoSuchNode, RowDoesNotFit, OutputTooShort, RequestMalformed, TooLarge, FileUnreadable, StaleCache, WrongNodeCount, WrongEntry, MissingEntry, WrongRngState, CountOverBytes, WrongLevels, WrongDegree, WrongNeighbour, EdgeToMissingLevel, EntryBelowHighest, TooFewStarts}
-use Rattle.refusal.specs.declared.Checked.{Checked}
-use Rattle.refusal.specs.declared.Checked.TheVariants as Checks
-use Rattle.refusal.specs.declared.Measured.{Measured}
-use Rattle.refusal.specs.declared.Measured.TheVariants as Measures
-use Rattle.refusal.specs.declared.Written.{Written}
-use Rattle.refusal.specs.declared.Written.TheVariants as Writes
 
 abbrev pub number : Refusal → ℕ
 number LengthOutOfBounds = 1
@@ -59,47 +53,38 @@ number EntryBelowHighest = 50
 number TooFewStarts = 51
 
 -- an answer, or why there is none
-pub data Result (A : Type 0) : Type 0 where
-  answer : A → Result A
-  refused : Refusal → Result A
+abbrev pub Answer : Type 0 → Type 0
+Answer A = Result A Refusal
 
 infixl 20 ◌>>=◌
 -- go on with an answer; a refusal ends it
-abbrev pub ◌>>=◌ : {A B : Type 0} → Result A → (A → Result B) → Result B
-◌>>=◌ (answer a) next = next a
-◌>>=◌ (refused why) next = refused why
+abbrev pub ◌>>=◌ : {A B : Type 0} → Answer A → (A → Answer B) → Answer B
+◌>>=◌ (Ok a) next = next a
+◌>>=◌ (Err why) next = Err why
 
 -- refuse where the test holds
-abbrev pub refuse : Refusal → Bool → Result (Unit {0})
-refuse why true = refused why
-refuse why false = answer tt
+abbrev pub refuse : Refusal → Bool → Answer (Unit {0})
+refuse why true = Err why
+refuse why false = Ok tt
 
 -- a test that is passed
-abbrev pub passes : Result (Unit {0})
-passes = answer tt
+abbrev pub passes : Answer (Unit {0})
+passes = Ok tt
 
 -- document 01's number, and 0 where nothing is refused
-abbrev pub number_told : {A : Type 0} → Result A → ℕ
-number_told (answer a) = 0
-number_told (refused why) = number why
+abbrev pub number_told : {A : Type 0} → Answer A → ℕ
+number_told (Ok a) = 0
+number_told (Err why) = number why
 
--- how an enum of the code tells a result: `good` of the answer, `bad` of the refusal
-abbrev pub told : {A B : Type 0} → (A → B) → (Refusal → B) → Result A → B
-told good bad (answer a) = good a
-told good bad (refused why) = bad why
-
--- a test without a value
-abbrev pub checked : Result (Unit {0}) → Checked
-checked = told (λ u. Checks.Passed) (λ why. Checks.Refused why)
-
--- a length
-abbrev pub measured : Result ℕ → Measured
-measured = told (λ n. Measures.Length n) (λ why. Measures.Refused why)
+-- how an answer is told: `good` of what it is, `bad` of why there is none
+abbrev pub told : {A B : Type 0} → (A → B) → (Refusal → B) → Answer A → B
+told good bad (Ok a) = good a
+told good bad (Err why) = bad why
 
 -- an answer, by its size
-abbrev pub size_told : {A : Type 0} → (A → ℕ) → Result A → Measured
-size_told size = told (λ a. Measures.Length (size a)) (λ why. Measures.Refused why)
+abbrev pub size_told : {A : Type 0} → (A → ℕ) → Answer A → Answer ℕ
+size_told size = told (λ a. Ok (size a)) (λ why. Err why)
 
 -- bytes, by how many they are
-abbrev pub written_told : Result (List ℕ) → Written
-written_told = told (λ bytes. Writes.Bytes (length bytes)) (λ why. Writes.Refused why)
+abbrev pub written_told : Answer (List ℕ) → Answer ℕ
+written_told = told (λ bytes. Ok (length bytes)) (λ why. Err why)

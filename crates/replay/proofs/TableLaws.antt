@@ -1,4 +1,5 @@
 -- The rows that stand in lent memory: one of them marked, one appended.
+use Rattle.std.specs.Prelude.{Ok, Err}
 use Prim.Native.Nat.{ℕ, ◌+◌, ◌*◌, ◌-◌, ◌≤◌, ◌<◌}
 use native.Mathlib.Omega.{arith}
 use mathlib.Core.Path.{◌≡◌, refl, sym, ap, subst, ◌∙◌}
@@ -7,7 +8,7 @@ use mathlib.Core.List.{List, [], ◌∷◌, ◌++◌}
 use borrow.Author.Tests.{lt-ltb, le-ltb, le-leb, lt-leb}
 use lib.Dec.{ltb, leb}
 use lib.ListN.{length, length-append}
-use Rattle.refusal.specs.Refusal.{Result, answer, refused, ◌>>=◌, refuse}
+use Rattle.refusal.specs.Refusal.{Answer, ◌>>=◌, refuse}
 use Rattle.refusal.specs.declared.Refusal.{Refusal}
 use Rattle.refusal.specs.declared.Refusal.TheVariants.{StorageLimits, TooFewRows}
 use Rattle.refusal.proofs.Results.{stop, pass}
@@ -28,7 +29,6 @@ use Rattle.tree.specs.declared.Tree.{Tree}
 use Rattle.tree_meaning.specs.Spares.{Spares}
 use Rattle.tree_meaning.proofs.TreeMeans.{length_mark, mark_packs, finds_active, marked_table, added_table}
 use Rattle.replay.specs.Stands.{TableStands, TakenOut, AppliedAs}
-use Rattle.replay.specs.declared.Applied.TheVariants as Applieds
 use Rattle.replay.specs.declared.Table.{Table}
 use Rattle.replay.specs.declared.Outed.{Outed}
 
@@ -76,16 +76,16 @@ module _ (d : ℕ) (words words' entries : List ℕ) (t : Table) (rows : List Ro
       }
 
 -- ---- what an operation leaves
-pub applied_refused : (d : ℕ) (x : Result (List Row)) (why : Refusal) (words entries : List ℕ) → x ≡ refused why → AppliedAs d x (Applieds.Refused why) words entries
-applied_refused d x why words entries e = subst (λ (y : Result (List Row)). AppliedAs d y (Applieds.Refused why) words entries) (sym e) refl
+pub applied_refused : (d : ℕ) (x : Answer (List Row)) (why : Refusal) (words entries : List ℕ) → x ≡ Err why → AppliedAs d x (Err why) words entries
+applied_refused d x why words entries e = subst (λ (y : Answer (List Row)). AppliedAs d y (Err why) words entries) (sym e) refl
 
-pub applied_went : (d : ℕ) (x : Result (List Row)) (rows : List Row) (t : Table) (words entries : List ℕ) → x ≡ answer rows → TableStands d words entries t rows
-    → AppliedAs d x (Applieds.Went t) words entries
-applied_went d x rows t words entries e s = subst (λ (y : Result (List Row)). AppliedAs d y (Applieds.Went t) words entries) (sym e) s
+pub applied_went : (d : ℕ) (x : Answer (List Row)) (rows : List Row) (t : Table) (words entries : List ℕ) → x ≡ Ok rows → TableStands d words entries t rows
+    → AppliedAs d x (Ok t) words entries
+applied_went d x rows t words entries e s = subst (λ (y : Answer (List Row)). AppliedAs d y (Ok t) words entries) (sym e) s
 
 -- ---- a delete
 module _ (d id : ℕ) (words entries : List ℕ) (t : Table) (o : Outed) (rows : List Row) (k : TakenOut d id words entries t o rows) where
-  pub removed : 0 < o.link → (shape : Shape) → apply_remove (row_kind d) shape id rows ≡ answer (mark (row_kind d) id rows)
+  pub removed : 0 < o.link → (shape : Shape) → apply_remove (row_kind d) shape id rows ≡ Ok (mark (row_kind d) id rows)
   unfolding apply_remove
   removed h shape = rw (k.told, lt-ltb 0 o.link h) refl
 
@@ -99,7 +99,7 @@ module _ (d id : ℕ) (words entries : List ℕ) (t : Table) (o : Outed) (rows :
 
 -- ---- a put
 module _ (d lent : ℕ) (r : Row) (words entries : List ℕ) (t : Table) (o : Outed) (rows : List Row) (k : TakenOut d r.id.0 words entries t o rows) where
-  abbrev pub put_on : Result (List Row)
+  abbrev pub put_on : Answer (List Row)
   put_on = apply_put (row_kind d) (bounds_for lent) r rows
 
   abbrev new_size : ℕ
@@ -111,7 +111,7 @@ module _ (d lent : ℕ) (r : Row) (words entries : List ℕ) (t : Table) (o : Ou
   bytes_are : snapshot_length (size (row_kind d) (mark (row_kind d) r.id.0 rows) + record_length d r.caption_length) ≡ snapshot_length new_size
   bytes_are = ap (λ (n : ℕ). snapshot_length (n + record_length d r.caption_length)) (sym k.stands.sized)
 
-  pub put_many : max_records ≤ t.tree.count → put_on ≡ refused StorageLimits
+  pub put_many : max_records ≤ t.tree.count → put_on ≡ Err StorageLimits
   unfolding apply_put
   put_many h = stop StorageLimits (leb max_records (length rows)) _ (le-leb _ _ (subst (λ (n : ℕ). max_records ≤ n) count_is h))
 
@@ -119,23 +119,23 @@ module _ (d lent : ℕ) (r : Row) (words entries : List ℕ) (t : Table) (o : Ou
     few_rows : leb max_records (length rows) ≡ false
     few_rows = lt-leb _ _ (subst (λ (n : ℕ). n < max_records) count_is few)
 
-    pub put_large : max_snapshot_bytes < snapshot_length new_size → put_on ≡ refused StorageLimits
+    pub put_large : max_snapshot_bytes < snapshot_length new_size → put_on ≡ Err StorageLimits
     unfolding apply_put
     put_large h =
         pass StorageLimits (leb max_records (length rows)) _ few_rows
         ∙ stop StorageLimits (ltb max_snapshot_bytes (snapshot_length (size (row_kind d) (mark (row_kind d) r.id.0 rows) + record_length d r.caption_length))) _ (ap (ltb max_snapshot_bytes) bytes_are ∙ lt-ltb _ _ h)
 
     module _ (fits : snapshot_length new_size ≤ max_snapshot_bytes) where
-      past : {B : Type 0} (next : Unit {0} → Result B) → (refuse StorageLimits (leb max_records (length rows)) >>= λ _. refuse StorageLimits (ltb max_snapshot_bytes (snapshot_length (size (row_kind d) (mark (row_kind d) r.id.0 rows) + record_length d r.caption_length))) >>= next) ≡ next tt
+      past : {B : Type 0} (next : Unit {0} → Answer B) → (refuse StorageLimits (leb max_records (length rows)) >>= λ _. refuse StorageLimits (ltb max_snapshot_bytes (snapshot_length (size (row_kind d) (mark (row_kind d) r.id.0 rows) + record_length d r.caption_length))) >>= next) ≡ next tt
       past next =
           pass StorageLimits (leb max_records (length rows)) _ few_rows
           ∙ pass StorageLimits (ltb max_snapshot_bytes (snapshot_length (size (row_kind d) (mark (row_kind d) r.id.0 rows) + record_length d r.caption_length))) next (ap (ltb max_snapshot_bytes) bytes_are ∙ le-ltb _ _ fits)
 
-      pub put_unlent : lent ≤ t.tree.count → put_on ≡ refused TooFewRows
+      pub put_unlent : lent ≤ t.tree.count → put_on ≡ Err TooFewRows
       unfolding apply_put
       put_unlent h = past _ ∙ stop TooFewRows (leb lent (length rows)) _ (le-leb _ _ (subst (λ (n : ℕ). lent ≤ n) count_is h))
 
-      pub put_goes : t.tree.count < lent → put_on ≡ answer (mark (row_kind d) r.id.0 rows ++ (r ∷ []))
+      pub put_goes : t.tree.count < lent → put_on ≡ Ok (mark (row_kind d) r.id.0 rows ++ (r ∷ []))
       unfolding apply_put
       put_goes h = past _ ∙ pass TooFewRows (leb lent (length rows)) _ (lt-leb _ _ (subst (λ (n : ℕ). n < lent) count_is h))
 

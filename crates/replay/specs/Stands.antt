@@ -1,11 +1,11 @@
 -- What replay keeps: rows in lent memory, with the tree that finds them and their encoded size; and what an operation leaves.
-use Rattle.std.specs.Prelude.{ℕ, ◌≤◌, List, ◌≡◌, ltb, length}
-use Rattle.refusal.specs.Refusal.{Result, answer, refused}
+use Rattle.std.specs.Prelude.{ℕ, ◌≤◌, List, ◌≡◌, ltb, length, Ok, Err}
+use Rattle.refusal.specs.Refusal.{Answer}
 use Rattle.config.specs.Limits.{max_snapshot_bytes}
 use Rattle.rows.specs.Rows.{RowFits}
 use Rattle.rows.specs.declared.Row.{Row}
-use Rattle.store_log.specs.declared.ReadOperation.{ReadOperation}
-use Rattle.store_log.specs.declared.ReadOperation.TheVariants as Operations
+use Rattle.store_log.specs.declared.Operation.{Operation}
+use Rattle.store_log.specs.declared.Operation.TheVariants.{Put, Remove}
 use Rattle.meaning.specs.Every.{Every}
 use Rattle.meaning.specs.Replay.{active, mark, size}
 use Rattle.meaning.specs.Records.{row_kind}
@@ -15,8 +15,6 @@ use Rattle.tree_meaning.specs.Holds.{Holds}
 use Rattle.tree_meaning.specs.Spares.{Spares}
 use Rattle.replay.specs.declared.Table.{Table}
 use Rattle.replay.specs.declared.Outed.{Outed}
-use Rattle.replay.specs.declared.Applied.{Applied}
-use Rattle.replay.specs.declared.Applied.TheVariants as Applieds
 
 -- these rows, of d coordinates each, stand in the lent words and entries
 pub record TableStands (d : ℕ) (words entries : List ℕ) (t : Table) (rows : List Row) : Type 0 where
@@ -41,20 +39,13 @@ pub record TakenOut (d id : ℕ) (words entries : List ℕ) (t : Table) (o : Out
   pub absent : Absent (plain_rows words) t.tree.count id
 
 -- an operation that may be applied: a put whose row leaves the spare bits free, or a delete
-abbrev pub Applicable : ReadOperation → Type 0
-Applicable (Operations.Put r next) = RowFits r × Spares r
-Applicable (Operations.Remove id next) = Unit
-Applicable (Operations.Refused why) = ⊥
-
--- where the one after it begins
-abbrev pub next_in : ReadOperation → ℕ
-next_in (Operations.Put r next) = next
-next_in (Operations.Remove id next) = next
-next_in (Operations.Refused why) = 0
+abbrev pub Applicable : Operation → Type 0
+Applicable (Put r) = RowFits r × Spares r
+Applicable (Remove id) = Unit
 
 -- what an operation leaves: the rows that replay defines, or its refusal
-abbrev pub AppliedAs : ℕ → Result (List Row) → Applied → List ℕ → List ℕ → Type 0
-AppliedAs d (answer rows) (Applieds.Went t) words entries = TableStands d words entries t rows
-AppliedAs d (answer rows) (Applieds.Refused why) words entries = ⊥
-AppliedAs d (refused why) (Applieds.Went t) words entries = ⊥
-AppliedAs d (refused why) (Applieds.Refused w) words entries = w ≡ why
+abbrev pub AppliedAs : ℕ → Answer (List Row) → Answer Table → List ℕ → List ℕ → Type 0
+AppliedAs d (Ok rows) (Ok t) words entries = TableStands d words entries t rows
+AppliedAs d (Ok rows) (Err why) words entries = ⊥
+AppliedAs d (Err why) (Ok t) words entries = ⊥
+AppliedAs d (Err why) (Err w) words entries = w ≡ why

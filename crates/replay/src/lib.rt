@@ -2,7 +2,7 @@
 // The definitions are those of `meaning` (Replay); specs/Stands.antt says how rows stand in memory while replay runs.
 #![tactic(auto)]
 
-ghost use Rattle.std.specs.Prelude.{◌≡◌, List, ◌+◌, ◌*◌, ◌≤◌, ◌<◌, length};
+ghost use Rattle.std.specs.Prelude.{◌≡◌, List, ◌+◌, ◌*◌, ◌≤◌, ◌<◌, length, Ok};
 ghost use Rattle.config.specs.Limits.{max_records, max_dimensions, max_log_bytes};
 ghost use Rattle.layout.specs.declared.Shape.TheVariants.{Batch};
 ghost use Rattle.rows.specs.Rows.{RowFits};
@@ -11,19 +11,18 @@ ghost use Rattle.meaning.specs.Log.{operations_at};
 ghost use Rattle.meaning.specs.Log as Meant;
 ghost use Rattle.meaning.specs.Replay.{apply_put, apply_remove, apply_one, apply_all};
 ghost use Rattle.meaning.specs.Replay as Replays;
-ghost use Rattle.refusal.specs.Refusal.{answer};
 ghost use Rattle.store_log.specs.Stored.{StoredAll, FrameThere, IsFrame};
-ghost use Rattle.store_log.specs.Told.{operation_read};
+ghost use Rattle.store_log.specs.Told.{operation_as};
 ghost use Rattle.meaning.specs.Records.{row_kind};
 ghost use Rattle.meaning.specs.Recovery.{bounds_for};
 ghost use Rattle.tree_meaning.specs.Spares.{Spares};
-ghost use Rattle.replay.specs.Stands.{TableStands, Kept, TakenOut, Applicable, next_in, AppliedAs};
+ghost use Rattle.replay.specs.Stands.{TableStands, Kept, TakenOut, Applicable, AppliedAs};
 
 use config::Config;
 use layout::Shape;
 use refusal::Refusal;
 use rows::{Id, Row};
-use store_log::{Frame, ReadOperation};
+use store_log::{Frame, Operation};
 use tree::Tree;
 
 // What replay keeps of the rows beside lent memory: the tree that finds them, and their encoded size.
@@ -39,13 +38,6 @@ struct Outed {
     link: usize,
     cell: usize,
     size: usize,
-}
-
-// What an operation leaves.
-#[derive(Clone, Copy)]
-pub enum Applied {
-    Went(Table),
-    Refused(Refusal),
 }
 
 // Marks the live row of an ID deleted, if there is one.
@@ -73,7 +65,7 @@ fn put_row(
     entries: &mut [u32],
     table: Table,
     row: Row,
-) -> Applied
+) -> Result<Table, Refusal>
     requires d_le_max_dimensions { d ≤ max_dimensions }
     requires lent_in_bounds { 2 * lent ≤ length words.old }
     requires lent_in_bounds_2 { lent ≤ length entries.old }
@@ -88,16 +80,16 @@ fn put_row(
     let count = tree.count;
     let size = out.size + layout::record_length(d, row.caption_length);
     if Config::MAX_RECORDS <= count {
-        return Applied::Refused(Refusal::StorageLimits);
+        return Err(Refusal::StorageLimits);
     }
     if Config::MAX_SNAPSHOT_BYTES < layout::HEADER_LENGTH + layout::CRC_LENGTH + size {
-        return Applied::Refused(Refusal::StorageLimits);
+        return Err(Refusal::StorageLimits);
     }
     if lent <= count {
-        return Applied::Refused(Refusal::TooFewRows);
+        return Err(Refusal::TooFewRows);
     }
     let tree = tree::put(words, entries, tree, out.cell, id.0, row.pack());
-    Applied::Went(Table { tree, size })
+    Ok(Table { tree, size })
 }
 
 // A delete marks the live row of its ID. Of an inactive ID it is 29 in a single frame, and does nothing in a batch.
@@ -108,7 +100,7 @@ fn remove_row(
     entries: &[u32],
     table: Table,
     id: Id,
-) -> Applied
+) -> Result<Table, Refusal>
     requires { Kept d words.old entries.now table }
     ensures { (rows : List Row) → TableStands d words.old entries.now table rows → AppliedAs d (apply_remove (row_kind d) shape id.0 rows) result words.new entries.now }
 {
@@ -116,15 +108,15 @@ fn remove_row(
     let tree = table.tree;
     let size = out.size;
     if 0 < out.link {
-        return Applied::Went(Table { tree, size });
+        return Ok(Table { tree, size });
     }
     match shape {
-        Shape::Single => Applied::Refused(Refusal::InactiveDelete),
-        Shape::Batch => Applied::Went(Table { tree, size }),
+        Shape::Single => Err(Refusal::InactiveDelete),
+        Shape::Batch => Ok(Table { tree, size }),
     }
 }
 
-// One operation that was accepted: the last arm does not come about.
+// One operation that was accepted.
 fn apply_operation(
     d: usize,
     lent: usize,
@@ -132,30 +124,18 @@ fn apply_operation(
     words: &mut [u64],
     entries: &mut [u32],
     table: Table,
-    operation: ReadOperation,
-) -> Applied
+    operation: Operation,
+) -> Result<Table, Refusal>
     requires d_le_max_dimensions { d ≤ max_dimensions }
     requires lent_in_bounds { 2 * lent ≤ length words.old }
     requires lent_in_bounds_2 { lent ≤ length entries.old }
     requires applicable { Applicable operation }
     requires kept { Kept d words.old entries.old table }
-    ensures { (x : Meant.ReadOperation) (rows : List Row) → operation ≡ operation_read x → TableStands d words.old entries.old table rows → AppliedAs d (apply_one (row_kind d) (bounds_for lent) shape x.operation rows) result words.new entries.new }
+    ensures { (x : Replays.Operation Row) (rows : List Row) → operation ≡ operation_as x → TableStands d words.old entries.old table rows → AppliedAs d (apply_one (row_kind d) (bounds_for lent) shape x rows) result words.new entries.new }
 {
     match operation {
-        ReadOperation::Put(row, _) => put_row(d, lent, words, entries, table, row),
-        ReadOperation::Remove(id, _) => remove_row(d, shape, words, entries, table, id),
-        ReadOperation::Refused(why) => Applied::Refused(why),
-    }
-}
-
-// Where the next one begins, of an operation that was accepted.
-fn next_of(operation: ReadOperation) -> usize
-    ensures { result ≡ next_in operation }
-{
-    match operation {
-        ReadOperation::Put(_, next) => next,
-        ReadOperation::Remove(_, next) => next,
-        ReadOperation::Refused(_) => 0,
+        Operation::Put(row) => put_row(d, lent, words, entries, table, row),
+        Operation::Remove(id) => remove_row(d, shape, words, entries, table, id),
     }
 }
 
@@ -170,7 +150,7 @@ fn apply_batch(
     words: &mut [u64],
     entries: &mut [u32],
     table: Table,
-) -> Applied
+) -> Result<Table, Refusal>
     requires dimensions_le_max_dimensions { config.dimensions ≤ max_dimensions }
     requires log_len_bound { length log.now ≤ max_log_bytes }
     requires end_in_bounds { end ≤ length log.now }
@@ -178,26 +158,17 @@ fn apply_batch(
     requires lent_in_bounds { 2 * lent ≤ length words.old }
     requires lent_in_bounds_2 { lent ≤ length entries.old }
     requires kept { Kept config.dimensions words.old entries.old table }
-    ensures { (x : Meant.ReadOperations) (rows : List Row) → operations_at n config log.now end at ≡ answer x → TableStands config.dimensions words.old entries.old table rows → AppliedAs config.dimensions (apply_all (row_kind config.dimensions) (bounds_for lent) Batch x.operations rows) result words.new entries.new }
+    ensures { (x : Meant.ReadOperations) (rows : List Row) → operations_at n config log.now end at ≡ Ok x → TableStands config.dimensions words.old entries.old table rows → AppliedAs config.dimensions (apply_all (row_kind config.dimensions) (bounds_for lent) Batch x.operations rows) result words.new entries.new }
 {
     let d = config.dimensions;
     let mut kept = table;
     let mut next = at;
-    let mut left = n;
-    while 0 < left {
-        let operation = store_log::stored_operation(config, log, end, log[next], next + 1);
-        match apply_operation(d, lent, Shape::Batch, words, entries, kept, operation) {
-            Applied::Went(table) => {
-                kept = table;
-            }
-            Applied::Refused(why) => {
-                return Applied::Refused(why);
-            }
-        }
-        next = next_of(operation);
-        left -= 1;
+    for _ in 0..n {
+        let read = store_log::stored_operation(config, log, end, log[next], next + 1);
+        kept = apply_operation(d, lent, Shape::Batch, words, entries, kept, read.operation)?;
+        next = read.next;
     }
-    Applied::Went(kept)
+    Ok(kept)
 }
 
 // Internal: the frame was read there, in a log within its bound; the tables have room for the rows lent, and rows stand in them.
@@ -210,7 +181,7 @@ pub fn apply_frame(
     words: &mut [u64],
     entries: &mut [u32],
     table: Table,
-) -> Applied
+) -> Result<Table, Refusal>
     requires dimensions_le_max_dimensions { config.dimensions ≤ max_dimensions }
     requires log_len_bound { length log.now ≤ max_log_bytes }
     requires lent_in_bounds { 2 * lent ≤ length words.old }
@@ -226,8 +197,16 @@ pub fn apply_frame(
     let shape = frame.shape;
     match shape {
         Shape::Single => {
-            let operation = store_log::stored_operation(config, log, end, log[start + 8], first);
-            apply_operation(d, lent, Shape::Single, words, entries, table, operation)
+            let read = store_log::stored_operation(config, log, end, log[start + 8], first);
+            apply_operation(
+                d,
+                lent,
+                Shape::Single,
+                words,
+                entries,
+                table,
+                read.operation,
+            )
         }
         Shape::Batch => apply_batch(
             config,

@@ -1,2 +1,1 @@
-pub mod Halves
 pub mod RngLaws

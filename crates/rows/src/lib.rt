@@ -2,8 +2,8 @@
 // Definitions: specs/Packed.antt for fields in a word, specs/Rows.antt for rows and operations, specs/Lent.antt.
 #![tactic(auto)]
 
-ghost use Rattle.std.specs.Prelude.{◌+◌, ◌*◌, ◌<◌, min, ◌≡◌, length};
-ghost use Rattle.rows.specs.Rows.{bit, row_word, row_of, row_at, set_row, RowFits, operation_word, operation_of, operation_at, OperationFits};
+ghost use Rattle.std.specs.Prelude.{◌+◌, ◌*◌, ◌<◌, ◌≡◌, length};
+ghost use Rattle.rows.specs.Rows.{row_word, row_of, row_at, set_row, RowFits, operation_word, operation_of, operation_at, OperationFits};
 ghost use Rattle.rows.specs.Lent.{rows_lent, rows_lent_plain};
 
 use config::Config;
@@ -48,22 +48,18 @@ const OPERATION_CAPTION: u64 = 281_474_976_710_656;
 
 const OPERATION_PUT: u64 = 9_223_372_036_854_775_808;
 
-fn bit_of(b: bool) -> u64
-    ensures { (result ≡ bit b) × (result < 2) }
-{
-    if b { 1 } else { 0 }
-}
-
 impl Row {
     // Internal: the fields keep to their widths. A field that is too wide has no word, and every caller has tested the length and the offset.
+    #[tactic(auto, using(crate::proofs::RowLaws::row_word_sum))]
     pub fn pack(self) -> u64
         requires { RowFits self }
         ensures { result ≡ row_word self }
     {
-        let high = bit_of(self.deleted) * ROW_DELETED + bit_of(self.from_log) * ROW_SOURCE;
+        let high = u64::from(self.deleted) * ROW_DELETED + u64::from(self.from_log) * ROW_SOURCE;
         high + (self.caption_length as u64) * ROW_CAPTION + (self.at as u64)
     }
 
+    #[tactic(auto, using(crate::proofs::RowLaws::row_of_parts))]
     pub fn unpack(id: Id, word: u64) -> Row
         ensures { result ≡ row_of id.0 word }
     {
@@ -79,15 +75,17 @@ impl Row {
 
 impl Operation {
     // Internal: the fields keep to their widths, as for a row.
+    #[tactic(auto, using(crate::proofs::RowLaws::operation_word_sum))]
     pub fn pack(self) -> u64
         requires { OperationFits self }
         ensures { result ≡ operation_word self }
     {
-        bit_of(self.put) * OPERATION_PUT
+        u64::from(self.put) * OPERATION_PUT
             + (self.caption_length as u64) * OPERATION_CAPTION
             + (self.at as u64)
     }
 
+    #[tactic(auto, using(crate::proofs::RowLaws::operation_of_parts))]
     pub fn unpack(id: Id, word: u64) -> Operation
         ensures { result ≡ operation_of id.0 word }
     {
@@ -101,6 +99,7 @@ impl Operation {
 }
 
 // Internal: the node's two words lie in the table.
+#[tactic(auto, unfolding(crate::specs::Rows::row_at))]
 pub fn row_at(rows: &[u64], node: Node) -> Row
     requires { 2 * node.0 + 1 < length rows.now }
     ensures { result ≡ row_at rows.now node.0 }
@@ -110,6 +109,7 @@ pub fn row_at(rows: &[u64], node: Node) -> Row
 }
 
 // Internal: as `row_at`, and the row's fields keep to their widths.
+#[tactic(auto, unfolding(crate::specs::Rows::set_row))]
 pub fn set_row(rows: &mut [u64], node: Node, row: Row)
     requires node_in_bounds { 2 * node.0 + 1 < length rows.old }
     requires row_fits { RowFits row }
@@ -122,6 +122,7 @@ pub fn set_row(rows: &mut [u64], node: Node, row: Row)
 }
 
 // Internal: the operation's two words lie in the request.
+#[tactic(auto, unfolding(crate::specs::Rows::operation_at))]
 pub fn operation_at(words: &[u64], i: usize) -> Operation
     requires { 2 * i + 1 < length words.now }
     ensures { result ≡ operation_at words.now i }
@@ -130,21 +131,15 @@ pub fn operation_at(words: &[u64], i: usize) -> Operation
     Operation::unpack(Id(words[at]), words[at + 1])
 }
 
-fn lesser(a: usize, b: usize) -> usize
-    ensures { result ≡ min a b }
-{
-    if a < b { a } else { b }
-}
-
 // For a call that is lent no active entries.
 pub fn rows_lent_plain(rows: &[u64]) -> usize
     ensures { result ≡ rows_lent_plain rows.now }
 {
-    lesser(rows.len() / 2, Config::MAX_RECORDS)
+    (rows.len() / 2).min(Config::MAX_RECORDS)
 }
 
 pub fn rows_lent(rows: &[u64], active: &[u32]) -> usize
     ensures { result ≡ rows_lent rows.now active.now }
 {
-    lesser(rows_lent_plain(rows), active.len())
+    rows_lent_plain(rows).min(active.len())
 }

@@ -1,4 +1,5 @@
 -- What accepted records say, and an accepted file up to and with its CRC.
+use Rattle.std.specs.Prelude.{Ok}
 use Prim.Native.Nat.{ℕ, ◌≤◌}
 use native.Mathlib.Omega.{arith}
 use mathlib.Core.Path.{◌≡◌, sym, subst}
@@ -9,7 +10,6 @@ use Rattle.config.specs.declared.Config.{Config}
 use Rattle.config.proofs.Laws.{bounded_of_valid}
 use Rattle.rows.specs.Rows.{RowFits}
 use Rattle.rows.specs.declared.Row.{Row}
-use Rattle.refusal.specs.Refusal.{answer}
 use Rattle.layout.specs.Layout.{header_length}
 use Rattle.meaning.specs.Every.{Every}
 use Rattle.meaning.specs.Replay.{size}
@@ -29,7 +29,7 @@ pub record RowsRead (n : ℕ) (rows : List Row) : Type 0 where
   pub packs : Every RowFits rows
   pub offsets : Every InSnapshot rows
 
-pub rows_read_facts : (c : Config) (s : List ℕ) (end : ℕ) → end ≤ max_snapshot_bytes → (n at : ℕ) (x : ReadRows) → records_at n c s end at ≡ answer x → RowsRead n x.rows
+pub rows_read_facts : (c : Config) (s : List ℕ) (end : ℕ) → end ≤ max_snapshot_bytes → (n at : ℕ) (x : ReadRows) → records_at n c s end at ≡ Ok x → RowsRead n x.rows
 rows_read_facts c s end h n at x e =
     let r = records_facts n c s end at x e in
     record {

@@ -4,3 +4,4 @@ pub mod RecordLaws
 pub mod Reading
 pub mod BodyLaws
 pub mod Outcome
+pub mod Parted

@@ -1,4 +1,5 @@
 -- The loop over the records: what was read so far stands before what is still to be read.
+use Rattle.std.specs.Prelude.{Ok, Err}
 use Prim.Native.Nat.{ℕ, zero, suc, ◌+◌, ◌*◌, ◌-◌, ◌<◌, ◌≤◌}
 use native.Mathlib.Omega.{arith}
 use mathlib.Core.Path.{◌≡◌, refl, sym, ap, ◌∙◌}
@@ -7,7 +8,7 @@ use lib.ListN.{length, drop, length-append}
 use Rattle.config.specs.declared.Config.{Config}
 use Rattle.rows.specs.Rows.{set_row}
 use Rattle.rows.specs.declared.Row.{Row}
-use Rattle.refusal.specs.Refusal.{Result, answer, refused, ◌>>=◌}
+use Rattle.refusal.specs.Refusal.{Answer, ◌>>=◌}
 use Rattle.refusal.specs.declared.Refusal.{Refusal}
 use Rattle.refusal.proofs.Results.{go_on, give_up}
 use Rattle.layout.specs.Layout.{record_length}
@@ -20,24 +21,24 @@ use Rattle.meaning.proofs.RowWords.{set_row_next}
 use Rattle.snapshot.proofs.RecordLaws.{record_within}
 
 -- rows put before those of a result
-abbrev pub onto : List Row → Result ReadRows → Result ReadRows
-onto done r = r >>= (λ x. answer (record { rows = done ++ x.rows; next = x.next }))
+abbrev pub onto : List Row → Answer ReadRows → Answer ReadRows
+onto done r = r >>= (λ x. Ok (record { rows = done ++ x.rows; next = x.next }))
 
 -- a record, then the rest
-abbrev with_rest : Row → Result ReadRows → Result ReadRows
-with_rest y r = r >>= (λ rest. answer (record { rows = y ∷ rest.rows; next = rest.next }))
+abbrev with_rest : Row → Answer ReadRows → Answer ReadRows
+with_rest y r = r >>= (λ rest. Ok (record { rows = y ∷ rest.rows; next = rest.next }))
 
-onto_none : (r : Result ReadRows) → r ≡ onto [] r
-onto_none (answer x) = refl
-onto_none (refused why) = refl
+onto_none : (r : Answer ReadRows) → r ≡ onto [] r
+onto_none (Ok x) = refl
+onto_none (Err why) = refl
 
-onto_more : (done : List Row) (y : Row) (r : Result ReadRows) → onto done (with_rest y r) ≡ onto (done ++ (y ∷ [])) r
-onto_more done y (answer x) = ap (λ (l : List Row). answer (record { rows = l; next = x.next })) (sym (append_assoc done (y ∷ []) x.rows))
-onto_more done y (refused why) = refl
+onto_more : (done : List Row) (y : Row) (r : Answer ReadRows) → onto done (with_rest y r) ≡ onto (done ++ (y ∷ [])) r
+onto_more done y (Ok x) = ap (λ (l : List Row). Ok (record { rows = l; next = x.next })) (sym (append_assoc done (y ∷ []) x.rows))
+onto_more done y (Err why) = refl
 
 -- ---- a turn
 module _ (c : Config) (s : List ℕ) (end : ℕ) where
-  records_over : (n at : ℕ) → n ≤ 0 → records_at n c s end at ≡ answer (record { rows = []; next = at })
+  records_over : (n at : ℕ) → n ≤ 0 → records_at n c s end at ≡ Ok (record { rows = []; next = at })
   unfolding records_at
   records_over zero at h = refl
   records_over (suc n) at h = absurd (omega arith)
@@ -80,7 +81,7 @@ module _ (c : Config) (s : List ℕ) (end first count : ℕ) (rows₀ : List ℕ
 
   -- the next record is accepted
   pub reading_more : (rows : List ℕ) (at total i : ℕ) → Reading c s end first count rows₀ rows at total i → i < count → 2 * count ≤ length rows₀
-      → (y : ReadRow) → record_at c s end at ≡ answer y → (rows' : List ℕ) → length rows' ≡ length rows → rows' ≡ set_row rows i y.row
+      → (y : ReadRow) → record_at c s end at ≡ Ok y → (rows' : List ℕ) → length rows' ≡ length rows → rows' ≡ set_row rows i y.row
       → Reading c s end first count rows₀ rows' y.next (total + record_length c.dimensions y.row.caption_length) (i + 1)
   reading_more rows at total i k h room y e rows' n is =
       let w = record_within c s end at y e in
@@ -108,14 +109,14 @@ module _ (c : Config) (s : List ℕ) (end first count : ℕ) (rows₀ : List ℕ
 
   -- all records are read
   pub reading_all : (rows : List ℕ) (at total i : ℕ) (k : Reading c s end first count rows₀ rows at total i) → count ≤ i
-      → records_at count c s end first ≡ answer (record { rows = k.done; next = at })
+      → records_at count c s end first ≡ Ok (record { rows = k.done; next = at })
   reading_all rows at total i k h =
       k.whole
       ∙ ap (onto k.done) (records_over c s end (count - i) at (omega arith))
-      ∙ ap (λ (l : List Row). answer (record { rows = l; next = at })) (append-nil k.done)
+      ∙ ap (λ (l : List Row). Ok (record { rows = l; next = at })) (append-nil k.done)
 
   -- the next record is refused
   pub reading_refused : (rows : List ℕ) (at total i : ℕ) → Reading c s end first count rows₀ rows at total i → i < count
-      → (why : Refusal) → record_at c s end at ≡ refused why → records_at count c s end first ≡ refused why
+      → (why : Refusal) → record_at c s end at ≡ Err why → records_at count c s end first ≡ Err why
   reading_refused rows at total i k h why e =
       k.whole ∙ ap (onto k.done) (records_turn c s end (count - i) at (omega arith) ∙ give_up (record_at c s end at) _ why e)

@@ -1,4 +1,5 @@
 -- What an accepted record says: where it ends, and that its row fits its words.
+use Rattle.std.specs.Prelude.{Ok}
 use Prim.Native.Nat.{ℕ, ◌+◌, ◌≤◌}
 use native.Mathlib.Omega.{arith}
 use mathlib.Core.Path.{◌≡◌, sym, subst}
@@ -9,7 +10,6 @@ use Rattle.config.specs.Limits.{max_snapshot_bytes}
 use Rattle.config.specs.Settings.{caption_limit}
 use Rattle.config.specs.declared.Config.{Config}
 use Rattle.rows.specs.Rows.{RowFits}
-use Rattle.refusal.specs.Refusal.{answer}
 use Rattle.layout.specs.Layout.{record_length}
 use Rattle.meaning.specs.Snapshot.{ReadRow, snapshot_row, record_at}
 use Rattle.meaning.proofs.SnapshotRead.{RecordFacts, record_facts, caption_low}
@@ -27,7 +27,7 @@ facts_within c s end at n f =
     let few = f.item.short in
     record { next_inside = omega arith; caption_few = omega arith; offset_inside = omega arith; size_within = omega arith }
 
-pub record_within : (c : Config) (s : List ℕ) (end at : ℕ) (y : ReadRow) → record_at c s end at ≡ answer y → RecordWithin c end at y
+pub record_within : (c : Config) (s : List ℕ) (end at : ℕ) (y : ReadRow) → record_at c s end at ≡ Ok y → RecordWithin c end at y
 record_within c s end at y e =
     let r = record_facts c s end at y e in
     subst (RecordWithin c end at) (sym r.is) (facts_within c s end at r.caption r.facts)
@@ -38,5 +38,5 @@ within_packs c end at y h w =
     let offset = w.offset_inside in
     record { caption_fits = omega arith; at_fits = omega arith }
 
-pub record_packs : (c : Config) (s : List ℕ) (end at : ℕ) (y : ReadRow) → end ≤ max_snapshot_bytes → record_at c s end at ≡ answer y → RowFits y.row
+pub record_packs : (c : Config) (s : List ℕ) (end at : ℕ) (y : ReadRow) → end ≤ max_snapshot_bytes → record_at c s end at ≡ Ok y → RowFits y.row
 record_packs c s end at y h e = within_packs c end at y h (record_within c s end at y e)

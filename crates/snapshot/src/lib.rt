@@ -3,20 +3,18 @@
 // answer tells them.
 #![tactic(auto)]
 
-ghost use Rattle.std.specs.Prelude.{◌≡◌, ◌+◌, ◌*◌, ◌≤◌, ◌++◌, cond, length, take, drop};
+ghost use Rattle.std.specs.Prelude.{◌≡◌, ◌+◌, ◌*◌, ◌≤◌, ◌++◌, cond, length, take, drop, Ok};
 ghost use Rattle.crc32.specs.Crc.{crc_of};
-ghost use Rattle.refusal.specs.Refusal.{answer};
 ghost use Rattle.config.specs.Limits.{max_dimensions, max_records, min_snapshot_bytes, max_snapshot_bytes};
-ghost use Rattle.config.specs.Settings.{metric_told};
 ghost use Rattle.layout.specs.Layout.{crc_length};
 ghost use Rattle.meaning.specs.Calls.{read_call, read_tables};
 ghost use Rattle.meaning.specs.Snapshot.{header_metric, header_config, header_sequence, header_count, over_sequence, counted_header, header_for, read_header, record_at, ReadRows, records_at, Snapshot, read_body, read_parts};
 ghost use Rattle.meaning.specs.Tables.{row_words};
-ghost use Rattle.snapshot.specs.Told.{header_told, record_told, records_told, meant_header, parts_told, accepted_told, read_told};
+ghost use Rattle.snapshot.specs.Told.{header_told, record_told, records_told, meant_header, parts_told, read_told};
 
-use config::{Config, Metric, ReadMetric};
+use config::{Config, Metric};
 use layout::Version;
-use refusal::{Checked, Measured, Refusal};
+use refusal::Refusal;
 use rows::{Id, Node, Row};
 
 // `first` is where the records begin.
@@ -28,24 +26,12 @@ pub struct Header {
     pub first: usize,
 }
 
-#[derive(Clone, Copy)]
-pub enum ReadHeader {
-    Read(Header),
-    Refused(Refusal),
-}
-
-// A row, and where the next record begins.
-#[derive(Clone, Copy)]
-enum ReadRecord {
-    Found(Row, usize),
-    Refused(Refusal),
-}
-
 // Where the records end, their encoded size, and the CRC of all bytes but its own.
 #[derive(Clone, Copy)]
-enum ReadRecords {
-    Found(usize, usize, u32),
-    Refused(Refusal),
+struct Records {
+    next: usize,
+    size: usize,
+    crc: u32,
 }
 
 // What a snapshot says, its active nodes apart.
@@ -59,12 +45,6 @@ struct Parts {
 }
 
 #[derive(Clone, Copy)]
-enum ReadParts {
-    Read(Parts),
-    Refused(Refusal),
-}
-
-#[derive(Clone, Copy)]
 pub struct SnapshotInfo {
     pub config: Config,
     pub crc: u32,
@@ -74,19 +54,13 @@ pub struct SnapshotInfo {
     pub size: usize,
 }
 
-#[derive(Clone, Copy)]
-pub enum ReadSnapshot {
-    Accepted(SnapshotInfo),
-    Refused(Refusal),
-}
-
 // Version 1 means squared L2.
-fn metric_of(s: &[u8], version: Version) -> ReadMetric
+fn metric_of(s: &[u8], version: Version) -> Result<Metric, Refusal>
     requires { min_snapshot_bytes ≤ length s.now }
-    ensures { result ≡ metric_told (header_metric version s.now) }
+    ensures { result ≡ header_metric version s.now }
 {
     match version {
-        Version::One => ReadMetric::Known(Metric::SquaredL2),
+        Version::One => Ok(Metric::SquaredL2),
         Version::Two => Metric::from_u32(fields::get_u32(s, 24)),
     }
 }
@@ -133,7 +107,8 @@ fn over_sequence(version: Version, sequence: u64, count: u64) -> bool
 }
 
 // What follows once the settings are valid: 4 at the count, and 9.
-fn counted(s: &[u8], version: Version, config: Config) -> ReadHeader
+#[tactic(auto, unfolding(meaning::specs::Snapshot::counted_header))]
+fn counted(s: &[u8], version: Version, config: Config) -> Result<Header, Refusal>
     requires min_snapshot_bytes_in_bounds { min_snapshot_bytes ≤ length s.now }
     requires dimensions_le_max_dimensions { config.dimensions ≤ max_dimensions }
     ensures { result ≡ header_told (counted_header s.now version config) }
@@ -141,22 +116,22 @@ fn counted(s: &[u8], version: Version, config: Config) -> ReadHeader
     let body = s.len() - layout::CRC_LENGTH;
     let first = version.header_length();
     if body < first {
-        return ReadHeader::Refused(Refusal::PastTheEnd);
+        return Err(Refusal::PastTheEnd);
     }
     let sequence = sequence_of(s, version);
     let count = count_of(s, version);
     if (Config::MAX_RECORDS as u64) < count {
-        return ReadHeader::Refused(Refusal::WrongCount);
+        return Err(Refusal::WrongCount);
     }
     let d = config.dimensions;
     let least = layout::record_length(d, 0);
     if (((body - first) / least) as u64) < count {
-        return ReadHeader::Refused(Refusal::WrongCount);
+        return Err(Refusal::WrongCount);
     }
     if over_sequence(version, sequence, count) {
-        return ReadHeader::Refused(Refusal::WrongCount);
+        return Err(Refusal::WrongCount);
     }
-    ReadHeader::Read(Header {
+    Ok(Header {
         config,
         sequence,
         count: count as usize,
@@ -164,39 +139,34 @@ fn counted(s: &[u8], version: Version, config: Config) -> ReadHeader
     })
 }
 
-fn header_for(s: &[u8], version: Version) -> ReadHeader
+#[tactic(auto, using(config::proofs::Laws::bounded_of_valid), unfolding(meaning::specs::Snapshot::header_for))]
+fn header_for(s: &[u8], version: Version) -> Result<Header, Refusal>
     requires { min_snapshot_bytes ≤ length s.now }
     ensures { result ≡ header_told (header_for s.now version) }
 {
-    let metric = match metric_of(s, version) {
-        ReadMetric::Known(m) => m,
-        ReadMetric::Refused(why) => {
-            return ReadHeader::Refused(why);
-        }
-    };
+    let metric = metric_of(s, version)?;
     let config = config_of(s, version, metric);
-    match config.validate() {
-        Checked::Passed => counted(s, version, config),
-        Checked::Refused(why) => ReadHeader::Refused(why),
-    }
+    config.validate()?;
+    counted(s, version, config)
 }
 
-pub fn read_header(s: &[u8]) -> ReadHeader
+#[tactic(auto, using(crate::proofs::HeaderLaws::magic_number_lem), unfolding(meaning::specs::Snapshot::read_header))]
+pub fn read_header(s: &[u8]) -> Result<Header, Refusal>
     ensures { result ≡ header_told (read_header s.now) }
 {
     if s.len() < Config::MIN_SNAPSHOT_BYTES {
-        return ReadHeader::Refused(Refusal::LengthOutOfBounds);
+        return Err(Refusal::LengthOutOfBounds);
     }
     if Config::MAX_SNAPSHOT_BYTES < s.len() {
-        return ReadHeader::Refused(Refusal::LengthOutOfBounds);
+        return Err(Refusal::LengthOutOfBounds);
     }
     if fields::get_u64(s, 0) != layout::SNAPSHOT_MAGIC {
-        return ReadHeader::Refused(Refusal::WrongMagic);
+        return Err(Refusal::WrongMagic);
     }
     match fields::get_u32(s, 8) {
         1 => header_for(s, Version::One),
         2 => header_for(s, Version::Two),
-        _ => ReadHeader::Refused(Refusal::WrongVersion),
+        _ => Err(Refusal::WrongVersion),
     }
 }
 
@@ -207,7 +177,9 @@ fn kept(deleted: bool, n: usize) -> usize
     if deleted { 0 } else { n }
 }
 
-fn read_record(config: Config, s: &[u8], end: usize, at: usize) -> ReadRecord
+// A row, and where the next record begins.
+#[tactic(auto, using(fields::proofs::Numbers::num_one), unfolding(meaning::specs::Snapshot::record_at))]
+fn read_record(config: Config, s: &[u8], end: usize, at: usize) -> Result<(Row, usize), Refusal>
     requires dimensions_le_max_dimensions { config.dimensions ≤ max_dimensions }
     requires end_in_bounds { end ≤ length s.now }
     requires at_le_end { at ≤ end }
@@ -215,18 +187,13 @@ fn read_record(config: Config, s: &[u8], end: usize, at: usize) -> ReadRecord
 {
     let start = at + layout::RECORD_HEAD;
     if end < start {
-        return ReadRecord::Refused(Refusal::PastTheEnd);
+        return Err(Refusal::PastTheEnd);
     }
     let flag = s[at + 8];
     if 1 < flag {
-        return ReadRecord::Refused(Refusal::WrongFlag);
+        return Err(Refusal::WrongFlag);
     }
-    let n = match items::check_item(Refusal::VectorPastTheEnd, config, s, end, start) {
-        Measured::Length(n) => n,
-        Measured::Refused(why) => {
-            return ReadRecord::Refused(why);
-        }
-    };
+    let n = items::check_item(Refusal::VectorPastTheEnd, config, s, end, start)?;
     let d = config.dimensions;
     let deleted = flag == 1;
     let id = Id(fields::get_u64(s, at));
@@ -238,11 +205,12 @@ fn read_record(config: Config, s: &[u8], end: usize, at: usize) -> ReadRecord
         caption_length,
         at: start,
     };
-    ReadRecord::Found(row, at + layout::record_length(d, n))
+    Ok((row, at + layout::record_length(d, n)))
 }
 
 // A row for each record, at the front of the table. Where a record is refused, the rows before it are written.
 // The CRC is taken along, a piece before its records are read.
+#[tactic(auto, using(crate::proofs::Reading::reading_none, crate::proofs::RecordLaws::record_packs))]
 fn read_records(
     config: Config,
     s: &[u8],
@@ -250,7 +218,7 @@ fn read_records(
     first: usize,
     count: usize,
     rows: &mut [u64],
-) -> ReadRecords
+) -> Result<Records, Refusal>
     requires dimensions_le_max_dimensions { config.dimensions ≤ max_dimensions }
     requires end_in_bounds { end ≤ length s.now }
     requires end_le_max_snapshot_bytes { end ≤ max_snapshot_bytes }
@@ -258,116 +226,99 @@ fn read_records(
     requires count_le_max_records { count ≤ max_records }
     requires count_in_bounds { 2 * count ≤ length rows.old }
     ensures value { result ≡ records_told config.dimensions (crc_of (take end s.now)) (records_at count config s.now end first) }
-    ensures rows_after { (x : ReadRows) → records_at count config s.now end first ≡ answer x → rows.new ≡ row_words x.rows ++ drop (2 * count) rows.old }
+    ensures rows_after { (x : ReadRows) → records_at count config s.now end first ≡ Ok x → rows.new ≡ row_words x.rows ++ drop (2 * count) rows.old }
 {
     let d = config.dimensions;
     let mut sum = pieces::none();
     let mut at = first;
     let mut size: usize = 0;
-    let mut i: usize = 0;
-    while i < count {
+    for i in 0..count {
         sum = pieces::ahead(sum, s, end, at);
-        match read_record(config, s, end, at) {
-            ReadRecord::Found(row, next) => {
-                rows::set_row(rows, Node(i as u32), row);
-                size += layout::record_length(d, row.caption_length);
-                at = next;
-            }
-            ReadRecord::Refused(why) => {
-                return ReadRecords::Refused(why);
-            }
-        }
-        i += 1;
+        let (row, next) = read_record(config, s, end, at)?;
+        rows::set_row(rows, Node(i as u32), row);
+        size += layout::record_length(d, row.caption_length);
+        at = next;
     }
-    ReadRecords::Found(at, size, pieces::finish(sum, s, end))
+    Ok(Records {
+        next: at,
+        size,
+        crc: pieces::finish(sum, s, end),
+    })
 }
 
 // What follows the header: the records, then 16 and 17.
-fn read_body(s: &[u8], header: Header, rows: &mut [u64]) -> ReadParts
+#[tactic(auto, using(crate::proofs::BodyLaws::rows_read_facts), unfolding(meaning::specs::Snapshot::read_body))]
+fn read_body(s: &[u8], header: Header, rows: &mut [u64]) -> Result<Parts, Refusal>
     requires dimensions_le_max_dimensions { header.config.dimensions ≤ max_dimensions }
     requires crc_length_in_bounds { header.first + crc_length ≤ length s.now }
     requires s_len_bound { length s.now ≤ max_snapshot_bytes }
     requires count_le_max_records { header.count ≤ max_records }
     requires count_in_bounds { 2 * header.count ≤ length rows.old }
     ensures value { result ≡ parts_told (read_body s.now (meant_header header)) }
-    ensures rows_after { (x : Snapshot) → read_body s.now (meant_header header) ≡ answer x → rows.new ≡ row_words x.rows ++ drop (2 * length x.rows) rows.old }
+    ensures rows_after { (x : Snapshot) → read_body s.now (meant_header header) ≡ Ok x → rows.new ≡ row_words x.rows ++ drop (2 * length x.rows) rows.old }
 {
     let config = header.config;
     let first = header.first;
     let count = header.count;
     let sequence = header.sequence;
     let end = s.len() - layout::CRC_LENGTH;
-    match read_records(config, s, end, first, count, rows) {
-        ReadRecords::Found(next, size, found) => {
-            if next != end {
-                return ReadParts::Refused(Refusal::BytesLeftOver);
-            }
-            let crc = fields::get_u32(s, end);
-            if found != crc {
-                return ReadParts::Refused(Refusal::WrongFileCrc);
-            }
-            ReadParts::Read(Parts {
-                config,
-                crc,
-                sequence,
-                records: count,
-                size,
-            })
-        }
-        ReadRecords::Refused(why) => ReadParts::Refused(why),
+    let found = read_records(config, s, end, first, count, rows)?;
+    if found.next != end {
+        return Err(Refusal::BytesLeftOver);
     }
+    let crc = fields::get_u32(s, end);
+    if found.crc != crc {
+        return Err(Refusal::WrongFileCrc);
+    }
+    Ok(Parts {
+        config,
+        crc,
+        sequence,
+        records: count,
+        size: found.size,
+    })
 }
 
 // The file up to and with its CRC: all but 18.
-fn read_parts(s: &[u8], rows: &mut [u64], lent: usize) -> ReadParts
+#[tactic(auto, using(crate::proofs::HeaderLaws::header_within), unfolding(meaning::specs::Snapshot::read_parts))]
+fn read_parts(s: &[u8], rows: &mut [u64], lent: usize) -> Result<Parts, Refusal>
     requires { 2 * lent ≤ length rows.old }
     ensures value { result ≡ parts_told (read_parts lent s.now) }
-    ensures rows_after { (x : Snapshot) → read_parts lent s.now ≡ answer x → rows.new ≡ row_words x.rows ++ drop (2 * length x.rows) rows.old }
+    ensures rows_after { (x : Snapshot) → read_parts lent s.now ≡ Ok x → rows.new ≡ row_words x.rows ++ drop (2 * length x.rows) rows.old }
 {
-    let header = match read_header(s) {
-        ReadHeader::Read(h) => h,
-        ReadHeader::Refused(why) => {
-            return ReadParts::Refused(why);
-        }
-    };
+    let header = read_header(s)?;
     let count = header.count;
     if lent < count {
-        return ReadParts::Refused(Refusal::TooFewRows);
+        return Err(Refusal::TooFewRows);
     }
     read_body(s, header, rows)
 }
 
-fn accepted(parts: Parts, active: usize) -> ReadSnapshot
-    ensures { result ≡ accepted_told parts active }
-{
-    let config = parts.config;
-    ReadSnapshot::Accepted(SnapshotInfo {
-        config,
-        crc: parts.crc,
-        sequence: parts.sequence,
-        records: parts.records,
-        active,
-        size: parts.size,
-    })
-}
-
 // Reads a snapshot into two lent tables: two words for each record, and an entry for each live one.
-pub fn read_snapshot(bytes: &[u8], rows: &mut [u64], active: &mut [u32]) -> ReadSnapshot
+pub fn read_snapshot(
+    bytes: &[u8],
+    rows: &mut [u64],
+    active: &mut [u32],
+) -> Result<SnapshotInfo, Refusal>
     ensures value { result ≡ read_told (read_call rows.old active.old bytes.now) }
     ensures rows_after { rows.new ≡ (read_tables rows.old active.old (read_call rows.old active.old bytes.now)).rows }
     ensures active_after { active.new ≡ (read_tables rows.old active.old (read_call rows.old active.old bytes.now)).active }
 {
     let lent = rows::rows_lent(rows, active);
     let parts = match read_parts(bytes, rows, lent) {
-        ReadParts::Read(p) => p,
-        ReadParts::Refused(why) => {
+        Ok(p) => p,
+        Err(why) => {
             active::clear(rows, active);
-            return ReadSnapshot::Refused(why);
+            return Err(why);
         }
     };
-    let records = parts.records;
-    match active::activate(rows, records, active) {
-        Measured::Length(n) => accepted(parts, n),
-        Measured::Refused(why) => ReadSnapshot::Refused(why),
-    }
+    let n = active::activate(rows, parts.records, active)?;
+    Ok(SnapshotInfo {
+        config: parts.config,
+        crc: parts.crc,
+        sequence: parts.sequence,
+        records: parts.records,
+        active: n,
+        size: parts.size,
+    })
 }

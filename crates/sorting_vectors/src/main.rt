@@ -39,11 +39,9 @@ fn id_of(kind: u64, i: u64, x: u64) -> u64 {
 
 fn fill(rows: &mut [u64], kind: u64) {
     let mut x: u64 = 88172645463325252;
-    let mut i: usize = 0;
-    while i < rows.len() {
+    for (i, row) in rows.iter_mut().enumerate() {
         x = next(x);
-        rows[i] = id_of(kind, (i / 2) as u64, x);
-        i += 1;
+        *row = id_of(kind, (i / 2) as u64, x);
     }
 }
 
@@ -52,27 +50,15 @@ fn number(active: &mut [u32])
     requires { length active.old ≤ 1000 }
     ensures { (i : ℕ) → i < length active.old → get_or active.new i 0 ≡ i }
 {
-    let mut i: usize = 0;
-    let mut v: u32 = 0;
-    while i < active.len() {
-        active[i] = v;
-        v += 1;
-        i += 1;
+    for (i, entry) in active.iter_mut().enumerate() {
+        *entry = i as u32;
     }
-}
-
-fn wide(v: u32) -> u64
-    ensures { result < 4294967296 }
-{
-    v as u64
 }
 
 fn sum(active: &[u32]) -> u64 {
     let mut h: u64 = 0;
-    let mut i: usize = 0;
-    while i < active.len() {
-        h = (h + wide(active[i])) % 4294967296;
-        i += 1;
+    for entry in active {
+        h = (h + u64::from(*entry)) % 4294967296;
     }
     h
 }
@@ -97,10 +83,8 @@ fn hash(rows: &[u64], active: &[u32], n: usize) -> u64
     requires first_in_rows { FirstInRows rows.now n active.now }
 {
     let mut h: u64 = 0;
-    let mut i: usize = 0;
-    while i < n {
+    for i in 0..n {
         h = (h * 31 + id_at(rows, active, n, i) % 65536) % 4294967296;
-        i += 1;
     }
     h
 }
@@ -109,12 +93,10 @@ fn in_order(rows: &[u64], active: &[u32], n: usize) -> bool
     requires n_in_bounds { n ≤ length active.now }
     requires first_in_rows { FirstInRows rows.now n active.now }
 {
-    let mut i: usize = 1;
-    while i < n {
+    for i in 1..n {
         if id_at(rows, active, n, i) < id_at(rows, active, n, i - 1) {
             return false;
         }
-        i += 1;
     }
     true
 }

@@ -1,5 +1,5 @@
--- What an operation's answer says of where it ends, the operations one by one, that what is accepted ends before `end`, and what an
--- accepted operation is.
+-- The operations one by one, that what is accepted ends before `end`, and what an accepted operation is.
+use Rattle.std.specs.Prelude.{Ok, Err}
 use Prim.Native.Nat.{ℕ, zero, suc, ◌+◌, ◌*◌, ◌-◌, ◌≤◌, ◌<◌}
 use native.Mathlib.Omega.{arith}
 use mathlib.Core.Path.{◌≡◌, refl, sym, ap, subst, ◌∙◌}
@@ -7,56 +7,37 @@ use mathlib.Core.List.{List, [], ◌∷◌}
 use borrow.Author.Tests.{lt-ltb, le-ltb}
 use lib.Dec.{ltb}
 use lib.ListN.{length}
-use Rattle.refusal.specs.Refusal.{Result, answer, refused, ◌>>=◌, refuse}
+use Rattle.refusal.specs.Refusal.{Answer, ◌>>=◌, refuse}
 use Rattle.refusal.specs.declared.Refusal.TheVariants.{PastTheEnd}
-use Rattle.refusal.specs.declared.Measured.{Measured}
-use Rattle.refusal.specs.declared.Measured.TheVariants as Measures
 use Rattle.refusal.proofs.Results.{stop, pass}
 use Rattle.config.specs.Settings.{caption_limit}
 use Rattle.config.specs.declared.Config.{Config}
 use Rattle.layout.specs.Layout.{item_length}
-use Rattle.rows.specs.declared.Row.{Row}
 use Rattle.fields.specs.Fields.{num}
-use Rattle.meaning.specs.Replay.{Operation, put, remove}
+use Rattle.meaning.specs.Replay.{remove}
 use Rattle.meaning.specs.Log as Meant
 use Rattle.meaning.specs.Log.{put_row, operation_at, operations_at}
 use Rattle.meaning.proofs.OperationRead.{OperationHere, put_here, remove_here, operation_read_lem, operations_none, operations_read_lem}
-use Rattle.store_log.specs.declared.ReadOperation.{ReadOperation}
-use Rattle.store_log.specs.declared.ReadOperation.TheVariants as Operations
-use Rattle.store_log.specs.Told.{operation_then, operation_told, next_told, nexts_told}
-
--- ---- where an operation ends, as its answer tells it
-abbrev pub end_of : ReadOperation → Measured
-end_of (Operations.Put r next) = Measures.Length next
-end_of (Operations.Remove id next) = Measures.Length next
-end_of (Operations.Refused why) = Measures.Refused why
-
-pub end_told : (x : Result Meant.ReadOperation) → end_of (operation_told x) ≡ next_told x
-end_told (answer x) = go x.operation
-  where
-    go : (o : Operation Row) → end_of (operation_then x.next o) ≡ Measures.Length x.next
-    go (put r) = refl
-    go (remove id) = refl
-end_told (refused why) = refl
+use Rattle.store_log.specs.Told.{next_told, nexts_told}
 
 -- ---- an operation that is accepted ends before `end`
-pub operation_within_lem : (c : Config) (log : List ℕ) (end tag at : ℕ) (x : Meant.ReadOperation) → operation_at c log end tag at ≡ answer x → x.next ≤ end
+pub operation_within_lem : (c : Config) (log : List ℕ) (end tag at : ℕ) (x : Meant.ReadOperation) → operation_at c log end tag at ≡ Ok x → x.next ≤ end
 operation_within_lem c log end tag at x e = go (operation_read_lem c log end tag at x e)
   where
     go : OperationHere c log end tag at x → x.next ≤ end
     go (put_here n t h i is) = let inside = i.inside in subst (λ (y : Meant.ReadOperation). y.next ≤ end) (sym is) (omega arith)
     go (remove_here t h is) = subst (λ (y : Meant.ReadOperation). y.next ≤ end) (sym is) h
 
-abbrev length_of : Measured → ℕ
-length_of (Measures.Length n) = n
-length_of (Measures.Refused why) = 0
+abbrev length_of : Answer ℕ → ℕ
+length_of (Ok n) = n
+length_of (Err why) = 0
 
-pub next_within : (c : Config) (log : List ℕ) (end tag at n : ℕ) → next_told (operation_at c log end tag at) ≡ Measures.Length n → n ≤ end
+pub next_within : (c : Config) (log : List ℕ) (end tag at n : ℕ) → next_told (operation_at c log end tag at) ≡ Ok n → n ≤ end
 next_within c log end tag at n e = go (operation_at c log end tag at) refl e
   where
-    go : (x : Result Meant.ReadOperation) → operation_at c log end tag at ≡ x → next_told x ≡ Measures.Length n → n ≤ end
-    go (answer y) h g = subst (λ (k : ℕ). k ≤ end) (ap length_of g) (operation_within_lem c log end tag at y h)
-    go (refused why) h g = absurd (let z : ◌≡◌ {A = ℕ} 0 1 = cc in omega arith)
+    go : (x : Answer Meant.ReadOperation) → operation_at c log end tag at ≡ x → next_told x ≡ Ok n → n ≤ end
+    go (Ok y) h g = subst (λ (k : ℕ). k ≤ end) (ap length_of g) (operation_within_lem c log end tag at y h)
+    go (Err why) h g = absurd (let z : ◌≡◌ {A = ℕ} 0 1 = cc in omega arith)
 
 -- ---- an operation that is accepted, by its tag
 -- a put whose ID stands at `at`: its caption's length stands behind the coordinates
@@ -65,7 +46,7 @@ pub record PutStored (c : Config) (log : List ℕ) (end at n : ℕ) (x : Meant.R
   pub few : n ≤ caption_limit c
   pub is : x ≡ put_row c log at n
 
-module _ (c : Config) (log : List ℕ) (end tag at : ℕ) (x : Meant.ReadOperation) (e : operation_at c log end tag at ≡ answer x) where
+module _ (c : Config) (log : List ℕ) (end tag at : ℕ) (x : Meant.ReadOperation) (e : operation_at c log end tag at ≡ Ok x) where
   pub stored_id : at + 8 ≤ end
   stored_id = go (operation_read_lem c log end tag at x e)
     where
@@ -89,12 +70,12 @@ module _ (c : Config) (log : List ℕ) (end tag at : ℕ) (x : Meant.ReadOperati
 
 -- ---- operations one by one
 -- what follows one that is accepted
-abbrev pub and_then : ℕ → Config → List ℕ → ℕ → Meant.ReadOperation → Result Meant.ReadOperations
+abbrev pub and_then : ℕ → Config → List ℕ → ℕ → Meant.ReadOperation → Answer Meant.ReadOperations
 and_then n c log end this =
-    operations_at n c log end this.next >>= (λ rest. answer (record { operations = this.operation ∷ rest.operations; next = rest.next }))
+    operations_at n c log end this.next >>= (λ rest. Ok (record { operations = this.operation ∷ rest.operations; next = rest.next }))
 
 module _ (c : Config) (log : List ℕ) (end : ℕ) where
-  pub no_more : (n at : ℕ) → n ≤ 0 → operations_at n c log end at ≡ answer (record { operations = []; next = at })
+  pub no_more : (n at : ℕ) → n ≤ 0 → operations_at n c log end at ≡ Ok (record { operations = []; next = at })
   unfolding operations_at
   no_more zero at h = refl
   no_more (suc n) at h = absurd (omega arith)
@@ -110,21 +91,21 @@ module _ (c : Config) (log : List ℕ) (end : ℕ) where
       ap (λ (m : ℕ). refuse PastTheEnd (ltb end (at + 1)) >>= λ _. operation_at c log end (num log at 1) (at + 1) >>= and_then m c log end) k
 
   -- where what follows an operation ends, by where the operation ends
-  abbrev pub after_one : ℕ → Measured → Measured
-  after_one n (Measures.Length next) = nexts_told (operations_at n c log end next)
-  after_one n (Measures.Refused why) = Measures.Refused why
+  abbrev pub after_one : ℕ → Answer ℕ → Answer ℕ
+  after_one n (Ok next) = nexts_told (operations_at n c log end next)
+  after_one n (Err why) = Err why
 
-  pub turn_past : (n at : ℕ) → 0 < n → end < at + 1 → nexts_told (operations_at n c log end at) ≡ Measures.Refused PastTheEnd
+  pub turn_past : (n at : ℕ) → 0 < n → end < at + 1 → nexts_told (operations_at n c log end at) ≡ Err PastTheEnd
   turn_past n at h g = ap nexts_told (one_more n at h ∙ stop PastTheEnd (ltb end (at + 1)) _ (lt-ltb _ _ g))
 
   -- where the rest ends is where all end
   pub rest_ends : (n : ℕ) (this : Meant.ReadOperation) → nexts_told (and_then n c log end this) ≡ nexts_told (operations_at n c log end this.next)
   rest_ends n this = go (operations_at n c log end this.next)
     where
-      go : (x : Result Meant.ReadOperations)
-          → nexts_told (x >>= (λ rest. answer (record { operations = this.operation ∷ rest.operations; next = rest.next }))) ≡ nexts_told x
-      go (answer y) = refl
-      go (refused why) = refl
+      go : (x : Answer Meant.ReadOperations)
+          → nexts_told (x >>= (λ rest. Ok (record { operations = this.operation ∷ rest.operations; next = rest.next }))) ≡ nexts_told x
+      go (Ok y) = refl
+      go (Err why) = refl
 
   pub turn_on : (n at tag : ℕ) → 0 < n → at + 1 ≤ end → tag ≡ num log at 1
       → nexts_told (operations_at n c log end at) ≡ after_one (n - 1) (next_told (operation_at c log end tag (at + 1)))
@@ -133,11 +114,11 @@ module _ (c : Config) (log : List ℕ) (end : ℕ) where
       ∙ go (operation_at c log end (num log at 1) (at + 1))
       ∙ ap (λ (k : ℕ). after_one (n - 1) (next_told (operation_at c log end k (at + 1)))) (sym e)
     where
-      go : (x : Result Meant.ReadOperation) → nexts_told (x >>= and_then (n - 1) c log end) ≡ after_one (n - 1) (next_told x)
-      go (answer y) = rest_ends (n - 1) y
-      go (refused why) = refl
+      go : (x : Answer Meant.ReadOperation) → nexts_told (x >>= and_then (n - 1) c log end) ≡ after_one (n - 1) (next_told x)
+      go (Ok y) = rest_ends (n - 1) y
+      go (Err why) = refl
 
-  pub as_many : (n at : ℕ) (x : Meant.ReadOperations) → operations_at n c log end at ≡ answer x → length x.operations ≡ n
+  pub as_many : (n at : ℕ) (x : Meant.ReadOperations) → operations_at n c log end at ≡ Ok x → length x.operations ≡ n
   as_many zero at x e = ap (λ (y : Meant.ReadOperations). length y.operations) (operations_none c log end at x e)
   as_many (suc n) at x e =
       let s = operations_read_lem n c log end at x e in

@@ -1,6 +1,6 @@
 -- What was accepted: an operation, operations, a frame that was read.
-use Rattle.std.specs.Prelude.{ℕ, List, ◌≡◌}
-use Rattle.refusal.specs.Refusal.{Result, answer}
+use Rattle.std.specs.Prelude.{ℕ, List, ◌≡◌, Ok}
+use Rattle.refusal.specs.Refusal.{Answer}
 use Rattle.config.specs.declared.Config.{Config}
 use Rattle.rows.specs.declared.Row.{Row}
 use Rattle.meaning.specs.Log.{ReadOperation, ReadOperations, frame_at, found}
@@ -8,13 +8,13 @@ use Rattle.meaning.specs.Replay as Replays
 use Rattle.store_log.specs.declared.Frame.{Frame}
 use Rattle.store_log.specs.Told.{frame_found}
 
-pub record Stored (x : Result ReadOperation) : Type 0 where
+pub record Stored (x : Answer ReadOperation) : Type 0 where
   pub value : ReadOperation
-  pub is : x ≡ answer value
+  pub is : x ≡ Ok value
 
-pub record StoredAll (x : Result ReadOperations) : Type 0 where
+pub record StoredAll (x : Answer ReadOperations) : Type 0 where
   pub value : ReadOperations
-  pub is : x ≡ answer value
+  pub is : x ≡ Ok value
 
 -- this frame was read there, behind some frame or none
 pub record IsFrame (c : Config) (log : List ℕ) (frame : Frame) (f : Replays.Frame Row) : Type 0 where

@@ -3,7 +3,7 @@
 // The definitions are those of `meaning` (Log); specs/Told.antt says how an answer tells them.
 #![tactic(auto)]
 
-ghost use Rattle.std.specs.Prelude.{◌≡◌, ◌+◌, ◌≤◌, length};
+ghost use Rattle.std.specs.Prelude.{◌≡◌, ◌+◌, ◌≤◌, length, Ok};
 ghost use Rattle.crc32.specs.Steps.{Rows};
 ghost use Rattle.config.specs.Limits.{min_frame, max_dimensions};
 ghost use Rattle.layout.specs.Layout.{item_length, frame_length};
@@ -13,17 +13,21 @@ ghost use Rattle.store_log.specs.Stored.{Stored};
 ghost use Rattle.store_log.specs.Told.{operation_read, operation_told, next_told, nexts_told, operation_count, frame_told};
 
 use config::Config;
-use frames::Envelope;
 use layout::Shape;
-use refusal::{Checked, Measured, Refusal};
+use refusal::Refusal;
 use rows::{Id, Row};
+
+#[derive(Clone, Copy)]
+pub enum Operation {
+    Put(Row),
+    Remove(Id),
+}
 
 // An operation, and where the next one begins.
 #[derive(Clone, Copy)]
-pub enum ReadOperation {
-    Put(Row, usize),
-    Remove(Id, usize),
-    Refused(Refusal),
+pub struct ReadOperation {
+    pub operation: Operation,
+    pub next: usize,
 }
 
 // `operations` is how many; `next` is the byte behind the frame.
@@ -34,14 +38,6 @@ pub struct Frame {
     pub shape: Shape,
     pub operations: usize,
     pub next: usize,
-}
-
-// What stands at a byte of the log.
-#[derive(Clone, Copy)]
-pub enum ReadFrame {
-    TooLittle,
-    Whole(Frame),
-    Refused(Refusal),
 }
 
 // A put whose ID stands at `at` and whose caption has n bytes.
@@ -61,12 +57,22 @@ fn put_at(config: Config, log: &[u8], at: usize, n: usize) -> ReadOperation
         caption_length: n,
         at: first,
     };
-    ReadOperation::Put(row, first + layout::item_length(d, n))
+    ReadOperation {
+        operation: Operation::Put(row),
+        next: first + layout::item_length(d, n),
+    }
 }
 
 // Internal: the settings are valid, `at` is not past `end`, nor `end` past the log's end.
 // One operation by its tag, whose ID stands at `at`.
-pub fn read_operation(config: Config, log: &[u8], end: usize, tag: u8, at: usize) -> ReadOperation
+#[tactic(auto, unfolding(meaning::specs::Log::operation_at))]
+pub fn read_operation(
+    config: Config,
+    log: &[u8],
+    end: usize,
+    tag: u8,
+    at: usize,
+) -> Result<ReadOperation, Refusal>
     requires dimensions_le_max_dimensions { config.dimensions ≤ max_dimensions }
     requires end_in_bounds { end ≤ length log.now }
     requires at_le_end { at ≤ end }
@@ -74,64 +80,66 @@ pub fn read_operation(config: Config, log: &[u8], end: usize, tag: u8, at: usize
 {
     let start = at + 8;
     if end < start {
-        return ReadOperation::Refused(Refusal::PastTheEnd);
+        return Err(Refusal::PastTheEnd);
     }
     if tag == 1 {
-        return match items::check_item(Refusal::PastTheEnd, config, log, end, start) {
-            Measured::Length(n) => put_at(config, log, at, n),
-            Measured::Refused(why) => ReadOperation::Refused(why),
-        };
+        let n = items::check_item(Refusal::PastTheEnd, config, log, end, start)?;
+        return Ok(put_at(config, log, at, n));
     }
     if tag == 2 {
-        return ReadOperation::Remove(Id(fields::get_u64(log, at)), start);
+        let operation = Operation::Remove(Id(fields::get_u64(log, at)));
+        return Ok(ReadOperation {
+            operation,
+            next: start,
+        });
     }
-    ReadOperation::Refused(Refusal::UnknownOperation)
+    Err(Refusal::UnknownOperation)
 }
 
 // Where an operation ends.
-fn operation_end(config: Config, log: &[u8], end: usize, tag: u8, at: usize) -> Measured
+fn operation_end(
+    config: Config,
+    log: &[u8],
+    end: usize,
+    tag: u8,
+    at: usize,
+) -> Result<usize, Refusal>
     requires dimensions_le_max_dimensions { config.dimensions ≤ max_dimensions }
     requires end_in_bounds { end ≤ length log.now }
     requires at_le_end { at ≤ end }
     ensures { result ≡ next_told (operation_at config log.now end tag at) }
 {
-    match read_operation(config, log, end, tag, at) {
-        ReadOperation::Put(_, next) => Measured::Length(next),
-        ReadOperation::Remove(_, next) => Measured::Length(next),
-        ReadOperation::Refused(why) => Measured::Refused(why),
-    }
+    let read = read_operation(config, log, end, tag, at)?;
+    Ok(read.next)
 }
 
 // Where n operations end, each behind its tag.
-fn check_operations(config: Config, log: &[u8], end: usize, n: usize, at: usize) -> Measured
+fn check_operations(
+    config: Config,
+    log: &[u8],
+    end: usize,
+    n: usize,
+    at: usize,
+) -> Result<usize, Refusal>
     requires dimensions_le_max_dimensions { config.dimensions ≤ max_dimensions }
     requires end_in_bounds { end ≤ length log.now }
     requires at_le_end { at ≤ end }
     ensures { result ≡ nexts_told (operations_at n config log.now end at) }
 {
     let mut next = at;
-    let mut left = n;
-    while 0 < left {
+    for _ in 0..n {
         let first = next + 1;
         if end < first {
-            return Measured::Refused(Refusal::PastTheEnd);
+            return Err(Refusal::PastTheEnd);
         }
-        match operation_end(config, log, end, log[next], first) {
-            Measured::Length(behind) => {
-                next = behind;
-            }
-            Measured::Refused(why) => {
-                return Measured::Refused(why);
-            }
-        }
-        left -= 1;
+        next = operation_end(config, log, end, log[next], first)?;
     }
-    Measured::Length(next)
+    Ok(next)
 }
 
 // 25, then the operations. The count's field is there.
 #[tactic(auto, unfolding(meaning::specs::Log::batch_at))]
-fn check_batch(config: Config, log: &[u8], end: usize, at: usize) -> Measured
+fn check_batch(config: Config, log: &[u8], end: usize, at: usize) -> Result<usize, Refusal>
     requires dimensions_le_max_dimensions { config.dimensions ≤ max_dimensions }
     requires end_in_bounds { end ≤ length log.now }
     requires at_bound { at + 4 ≤ end }
@@ -140,13 +148,13 @@ fn check_batch(config: Config, log: &[u8], end: usize, at: usize) -> Measured
     let n = fields::get_u32(log, at) as usize;
     let first = at + 4;
     if n < 1 {
-        return Measured::Refused(Refusal::WrongBatchCount);
+        return Err(Refusal::WrongBatchCount);
     }
     if Config::MAX_BATCH_OPERATIONS < n {
-        return Measured::Refused(Refusal::WrongBatchCount);
+        return Err(Refusal::WrongBatchCount);
     }
     if (end - first) / 9 < n {
-        return Measured::Refused(Refusal::WrongBatchCount);
+        return Err(Refusal::WrongBatchCount);
     }
     check_operations(config, log, end, n, first)
 }
@@ -181,7 +189,7 @@ fn check_body(
     shape: Shape,
     opcode: u8,
     at: usize,
-) -> Measured
+) -> Result<usize, Refusal>
     requires dimensions_le_max_dimensions { config.dimensions ≤ max_dimensions }
     requires end_in_bounds { end ≤ length log.now }
     requires at_bound { at + 4 ≤ end }
@@ -205,7 +213,13 @@ fn operation_count(log: &[u8], shape: Shape, at: usize) -> usize
 }
 
 // The payload of n bytes of the frame at `at`, once its CRC holds: opcode, sequence, 24, every operation, 16.
-fn decode(config: Config, log: &[u8], previous: u64, at: usize, n: usize) -> ReadFrame
+fn decode(
+    config: Config,
+    log: &[u8],
+    previous: u64,
+    at: usize,
+    n: usize,
+) -> Result<Option<Frame>, Refusal>
     requires dimensions_le_max_dimensions { config.dimensions ≤ max_dimensions }
     requires min_frame_le_n { min_frame ≤ n }
     requires n_in_bounds { at + frame_length n ≤ length log.now }
@@ -213,28 +227,23 @@ fn decode(config: Config, log: &[u8], previous: u64, at: usize, n: usize) -> Rea
 {
     let sequence = fields::get_u64(log, at + 9);
     if out_of_order(previous, sequence) {
-        return ReadFrame::Refused(Refusal::WrongSequence);
+        return Err(Refusal::WrongSequence);
     }
     let opcode = log[at + 8];
     let shape = shape_of(opcode);
     let first = at + 17;
     let end = at + 8 + n;
-    let next = match check_body(config, log, end, shape, opcode, first) {
-        Measured::Length(next) => next,
-        Measured::Refused(why) => {
-            return ReadFrame::Refused(why);
-        }
-    };
+    let next = check_body(config, log, end, shape, opcode, first)?;
     if next != end {
-        return ReadFrame::Refused(Refusal::BytesLeftOver);
+        return Err(Refusal::BytesLeftOver);
     }
-    ReadFrame::Whole(Frame {
+    Ok(Some(Frame {
         start: at,
         sequence,
         shape,
         operations: operation_count(log, shape, first),
         next: at + (n + layout::FRAME_AROUND),
-    })
+    }))
 }
 
 // Internal: `tables` is what `crc32::tables` gives, the settings are valid, and `at` is a byte of the log or its end.
@@ -245,61 +254,64 @@ pub fn read_frame(
     log: &[u8],
     previous: u64,
     at: usize,
-) -> ReadFrame
+) -> Result<Option<Frame>, Refusal>
     requires rows { Rows 16 tables.now }
     requires dimensions_le_max_dimensions { config.dimensions ≤ max_dimensions }
     requires at_in_bounds { at ≤ length log.now }
     ensures { result ≡ frame_told (frame_at config log.now previous at) }
 {
-    match frames::read_envelope(log, at) {
-        Envelope::TooLittle => ReadFrame::TooLittle,
-        Envelope::Payload(n) => {
-            if !frames::payload_crc_holds(tables, log, at, n) {
-                return ReadFrame::Refused(Refusal::WrongPayloadCrc);
-            }
-            decode(config, log, previous, at, n)
-        }
-        Envelope::Refused(why) => ReadFrame::Refused(why),
+    let Some(n) = frames::read_envelope(log, at)? else {
+        return Ok(None);
+    };
+    if !frames::payload_crc_holds(tables, log, at, n) {
+        return Err(Refusal::WrongPayloadCrc);
     }
+    decode(config, log, previous, at, n)
 }
 
-// A frame for users, as `read_frame` reads it, behind the tests of the settings: 6, 7, 8.
-pub fn frame_at(config: Config, log: &[u8], previous: u64, at: usize) -> ReadFrame
+// A frame for users, as `read_frame` reads it.
+pub fn frame_at(
+    config: Config,
+    log: &[u8],
+    previous: u64,
+    at: usize,
+) -> Result<Option<Frame>, Refusal>
     ensures { result ≡ frame_told (frame_call config log.now previous at) }
 {
-    match config.validate() {
-        Checked::Passed => valid_frame(config, log, previous, at),
-        Checked::Refused(why) => ReadFrame::Refused(why),
-    }
+    config.validate()?; // 6, 7, 8, then the frame
+    valid_frame(config, log, previous, at)
 }
 
 // A byte past the log's end has too little. The CRC's tables are made for this call.
-fn valid_frame(config: Config, log: &[u8], previous: u64, at: usize) -> ReadFrame
+#[tactic(auto, unfolding(meaning::specs::Log::frame_at))]
+fn valid_frame(
+    config: Config,
+    log: &[u8],
+    previous: u64,
+    at: usize,
+) -> Result<Option<Frame>, Refusal>
     requires { config.dimensions ≤ max_dimensions }
     ensures { result ≡ frame_told (frame_at config log.now previous at) }
 {
     if log.len() < at {
-        return ReadFrame::TooLittle;
+        return Ok(None);
     }
     let tables = crc32::tables();
     read_frame(&tables, config, log, previous, at)
 }
 
-// An operation of a frame for users, behind the tests of the settings: 6, 7, 8. `shape` is the frame's, `end` the byte behind its
-// operations, and the tag stands at `at`.
+// An operation of a frame for users. `shape` is the frame's, `end` the byte behind its operations, and the tag stands at `at`.
 pub fn operation_at(
     config: Config,
     log: &[u8],
     shape: Shape,
     end: usize,
     at: usize,
-) -> ReadOperation
+) -> Result<ReadOperation, Refusal>
     ensures { result ≡ operation_told (operation_call config log.now shape end at) }
 {
-    match config.validate() {
-        Checked::Passed => valid_operation(config, log, shape, end, at),
-        Checked::Refused(why) => ReadOperation::Refused(why),
-    }
+    config.validate()?; // 6, 7, 8, then the operation
+    valid_operation(config, log, shape, end, at)
 }
 
 // From an operation's tag to its ID.
@@ -313,19 +325,25 @@ fn id_offset(shape: Shape) -> usize
 }
 
 // Any `end` and any `at` can be handed in.
-fn valid_operation(config: Config, log: &[u8], shape: Shape, end: usize, at: usize) -> ReadOperation
+fn valid_operation(
+    config: Config,
+    log: &[u8],
+    shape: Shape,
+    end: usize,
+    at: usize,
+) -> Result<ReadOperation, Refusal>
     requires { config.dimensions ≤ max_dimensions }
     ensures { result ≡ operation_told (operation_within config log.now shape end at) }
 {
     let offset = id_offset(shape);
     if log.len() < end {
-        return ReadOperation::Refused(Refusal::PastTheEnd);
+        return Err(Refusal::PastTheEnd);
     }
     if end < at {
-        return ReadOperation::Refused(Refusal::PastTheEnd);
+        return Err(Refusal::PastTheEnd);
     }
     if end - at < offset {
-        return ReadOperation::Refused(Refusal::PastTheEnd);
+        return Err(Refusal::PastTheEnd);
     }
     read_operation(config, log, end, log[at], at + offset)
 }
@@ -336,12 +354,15 @@ pub fn stored_operation(config: Config, log: &[u8], end: usize, tag: u8, at: usi
     requires dimensions_le_max_dimensions { config.dimensions ≤ max_dimensions }
     requires end_in_bounds { end ≤ length log.now }
     requires stored { Stored (operation_at config log.now end tag at) }
-    ensures { result ≡ operation_told (operation_at config log.now end tag at) }
+    ensures { operation_told (operation_at config log.now end tag at) ≡ Ok result }
 {
     let first = at + 8;
     if tag == 1 {
         let n = fields::get_u32(log, first + 4 * config.dimensions) as usize;
         return put_at(config, log, at, n);
     }
-    ReadOperation::Remove(Id(fields::get_u64(log, at)), first)
+    ReadOperation {
+        operation: Operation::Remove(Id(fields::get_u64(log, at))),
+        next: first,
+    }
 }

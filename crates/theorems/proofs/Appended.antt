@@ -1,4 +1,5 @@
 -- A frame appended to a log whose bytes are all read: its frames, then this one, and no tail; and recovery of that log.
+use Rattle.std.specs.Prelude.{Ok}
 use Prim.Native.Nat.{ℕ, ◌+◌, ◌≤◌, ◌<◌, ◌^◌}
 use mathlib.Core.Path.{◌≡◌, sym, ap, subst, ◌∙◌}
 use mathlib.Core.List.{List, [], ◌∷◌, ◌++◌, append-nil, map}
@@ -7,7 +8,6 @@ use lib.ListN.{length, drop, length-append}
 use lib.Seq.{drop-append_seam}
 use Rattle.config.specs.Limits.{max_log_bytes}
 use Rattle.config.specs.declared.Config.{Config}
-use Rattle.refusal.specs.Refusal.{answer}
 use Rattle.meaning.specs.Replay.{Kind, Operation, Frame, tail, reached, onward, step, run, replay, begins}
 use Rattle.meaning.specs.Records.{Record, row_kind, seen}
 use Rattle.rows.specs.declared.Row.{Row}
@@ -54,7 +54,7 @@ module _ (shape : Shape) (c : Config) (sequence : ℕ) (os : List (Operation Rec
   appended_seen snapshot = frame_seen shape c sequence os k (log ++ frame_of shape sequence os) (length log) [] at_the_end snapshot
 
 -- ---- an encoded request
-module _ (shape : Shape) (c : Config) (sequence : ℕ) (words coords captions : List ℕ) (room : ℕ) (bs : List ℕ) (w : Every (λ x. x < 2 ^ 64) words) (q : sequence < 256 ^ 8) (e : encode shape c sequence words coords captions room ≡ answer bs) (log : List ℕ) where
+module _ (shape : Shape) (c : Config) (sequence : ℕ) (words coords captions : List ℕ) (room : ℕ) (bs : List ℕ) (w : Every (λ x. x < 2 ^ 64) words) (q : sequence < 256 ^ 8) (e : encode shape c sequence words coords captions room ≡ Ok bs) (log : List ℕ) where
   abbrev os : List (Operation Record)
   os = requested c words coords captions
 

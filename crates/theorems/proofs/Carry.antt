@@ -1,12 +1,13 @@
 -- A map of records that keeps what replay asks of them, and any map of log places, carries replay with it: a table of rows and the
 -- records seen through it replay alike.
+use Rattle.std.specs.Prelude.{Ok, Err}
 use Prim.Native.Nat.{ℕ, ◌+◌}
 use mathlib.Core.Bool.{Bool, true, false, not, cond}
 use mathlib.Core.List.{List, [], ◌∷◌, ◌++◌, map}
 use mathlib.Core.Path.{◌≡◌, refl, sym, ap, ap₂, ◌∙◌}
 use lib.ListN.{length, length-map}
 use lib.Dec.{leb, ltb, eqb}
-use Rattle.refusal.specs.Refusal.{Result, answer, refused, refuse, ◌>>=◌}
+use Rattle.refusal.specs.Refusal.{Answer, refuse, ◌>>=◌}
 use Rattle.refusal.specs.declared.Refusal.TheVariants.{GapAfterSnapshot, StorageLimits, TooFewRows}
 use Rattle.layout.specs.Layout.{snapshot_length}
 use Rattle.layout.specs.declared.Shape.{Shape}
@@ -84,19 +85,19 @@ module _ {A B : Type 0} (K : Kind A) (J : Kind B) (h : A → B) (C : Carries K J
         (go (leb L.max_records (length rs)) (ltb L.max_bytes (snapshot_length (size K (mark K (K.id_of r) rs) + K.size_of r))) (leb L.rows_lent (length rs)))
       where
         go : (x y z : Bool)
-            → (refuse StorageLimits x >>= λ _. refuse StorageLimits y >>= λ _. refuse TooFewRows z >>= λ _. answer (map h (mark K (K.id_of r) rs) ++ (h r ∷ [])))
-            ≡ on_answer (map h) (refuse StorageLimits x >>= λ _. refuse StorageLimits y >>= λ _. refuse TooFewRows z >>= λ _. answer (mark K (K.id_of r) rs ++ (r ∷ [])))
+            → (refuse StorageLimits x >>= λ _. refuse StorageLimits y >>= λ _. refuse TooFewRows z >>= λ _. Ok (map h (mark K (K.id_of r) rs) ++ (h r ∷ [])))
+            ≡ on_answer (map h) (refuse StorageLimits x >>= λ _. refuse StorageLimits y >>= λ _. refuse TooFewRows z >>= λ _. Ok (mark K (K.id_of r) rs ++ (r ∷ [])))
         go true y z = refl
         go false true z = refl
         go false false true = refl
-        go false false false = ap (λ (xs : List B). answer xs) (sym (map_append h (mark K (K.id_of r) rs) (r ∷ [])))
+        go false false false = ap (λ (xs : List B). Ok xs) (sym (map_append h (mark K (K.id_of r) rs) (r ∷ [])))
 
     pub apply_remove_carried : (shape : Shape) (id : ℕ) (rs : List A) → apply_remove J shape id (map h rs) ≡ on_answer (map h) (apply_remove K shape id rs)
     unfolding apply_remove
     apply_remove_carried shape id rs = rw (active_carried id rs, mark_carried id rs) (go (active K id rs) shape)
       where
-        go : (x : Bool) (y : Shape) → cond x (answer (map h (mark K id rs))) (absent y (map h rs))
-            ≡ on_answer (map h) (cond x (answer (mark K id rs)) (absent y rs))
+        go : (x : Bool) (y : Shape) → cond x (Ok (map h (mark K id rs))) (absent y (map h rs))
+            ≡ on_answer (map h) (cond x (Ok (mark K id rs)) (absent y rs))
         go true y = refl
         go false Single = refl
         go false Batch = refl
@@ -131,15 +132,15 @@ module _ {A B : Type 0} (K : Kind A) (J : Kind B) (h : A → B) (C : Carries K J
       run_carried q [] (tail at) s = refl
       run_carried q [] (bad why at) s = refl
       run_carried q (f ∷ fs) e s =
-          ap (λ (x : Result (State B)). onward (p f.start) x (run J L q (map (carry_frame h p) fs) (carry_end p e))) (step_carried q f s)
+          ap (λ (x : Answer (State B)). onward (p f.start) x (run J L q (map (carry_frame h p) fs) (carry_end p e))) (step_carried q f s)
           ∙ go (step K L q f s) (run_carried q fs e)
         where
-          go : (x : Result (State A))
+          go : (x : Answer (State A))
               → ((t : State A) → run J L q (map (carry_frame h p) fs) (carry_end p e) (carry_state h t) ≡ carry_outcome h p (run K L q fs e t))
               → onward (p f.start) (on_answer (carry_state h) x) (run J L q (map (carry_frame h p) fs) (carry_end p e))
               ≡ carry_outcome h p (onward f.start x (run K L q fs e))
-          go (answer t) rest = rest t
-          go (refused why) rest = refl
+          go (Ok t) rest = rest t
+          go (Err why) rest = refl
 
       -- replay of what is mapped is the mapped outcome
       pub replay_carried : (q : ℕ) (rs : List A) (log : Frames A) → replay J L q (map h rs) (carry_frames h p log) ≡ carry_outcome h p (replay K L q rs log)

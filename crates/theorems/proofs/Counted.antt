@@ -1,5 +1,6 @@
 -- Nothing is taken twice and nothing left out: the frames split into those at or below the snapshot's sequence, which are counted as
 -- skipped, and the others, which are replayed in order, each numbered one more than the one before.
+use Rattle.std.specs.Prelude.{Ok, Err}
 use Prim.Native.Nat.{ℕ, suc, ◌+◌}
 use native.Mathlib.Nat.{zero-add}
 use native.Mathlib.Omega.{arith}
@@ -9,7 +10,7 @@ use mathlib.Core.Path.{◌≡◌, refl, sym, ap, subst, ◌∙◌}
 use lib.ListN.{length}
 use lib.Dec.{leb}
 use borrow.Author.Tests.{leb-false, le-leb, lt-leb, eq-eqb}
-use Rattle.refusal.specs.Refusal.{Result, answer, refused, ◌>>=◌}
+use Rattle.refusal.specs.Refusal.{Answer, ◌>>=◌}
 use Rattle.meaning.specs.Replay.{begins, Kind, Frame, tail, State, reached, Bounds, apply_all, skip, play, replay_frame, step, run, replay, onward}
 use Rattle.theorems.proofs.Ran.{Did, skips, plays, did, ran, ran_at, ran_count}
 use Rattle.theorems.specs.Cut.{Ran}
@@ -50,7 +51,7 @@ parted {A} q (f ∷ fs) r = go (leb f.sequence q) refl (parted q fs (rising_of f
 pub record Tally {A : Type 0} (K : Kind A) (L : Bounds) (q : ℕ) (fs : List (Frame A)) (s t : State A) : Type 0 where
   pub replayed : t.replayed ≡ length (above q fs) + s.replayed
   pub skipped : t.skipped ≡ length (up_to q fs) + s.skipped
-  pub records : apply_frames K L (above q fs) s.records ≡ answer t.records
+  pub records : apply_frames K L (above q fs) s.records ≡ Ok t.records
   pub sequence : t.sequence ≡ last_sequence s.sequence (above q fs)
   pub consecutive : Consecutive s.sequence (above q fs)
 
@@ -61,7 +62,7 @@ module _ {A : Type 0} (K : Kind A) (L : Bounds) (q : ℕ) where
       record {
         replayed = omega (arith, ap (λ (x : State A). x.replayed) r);
         skipped = omega (arith, ap (λ (x : State A). x.skipped) r);
-        records = ap (λ (x : State A). answer x.records) r;
+        records = ap (λ (x : State A). Ok x.records) r;
         sequence = sym (ap (λ (x : State A). x.sequence) r);
         consecutive = tt;
       }
@@ -93,7 +94,7 @@ pub record Counts {A : Type 0} (K : Kind A) (L : Bounds) (q : ℕ) (rs : List A)
   pub ends : at ≡ k
   pub skipped : s.skipped ≡ length (up_to q fs)
   pub replayed : s.replayed ≡ length (above q fs)
-  pub records : apply_frames K L (above q fs) rs ≡ answer s.records
+  pub records : apply_frames K L (above q fs) rs ≡ Ok s.records
   pub sequence : s.sequence ≡ last_sequence q (above q fs)
   pub consecutive : Consecutive q (above q fs)
 
@@ -121,27 +122,27 @@ module _ {A : Type 0} (K : Kind A) (L : Bounds) (q : ℕ) where
 
   -- the other way: frames numbered on from the snapshot, whose operations go through, are replayed
   pub run_reaches : (fs : List (Frame A)) (k : ℕ) (s : State A) (ts : List A)
-      → Consecutive s.sequence (above q fs) → apply_frames K L (above q fs) s.records ≡ answer ts → run K L q fs (tail k) s ≡ reached (tallied fs s ts) k
+      → Consecutive s.sequence (above q fs) → apply_frames K L (above q fs) s.records ≡ Ok ts → run K L q fs (tail k) s ≡ reached (tallied fs s ts) k
   unfolding run step replay_frame up_to above apply_frames
   run_reaches [] k s ts c h =
       λ i. reached (record { records = answer_injective s.records ts h i; sequence = s.sequence; replayed = sym (zero-add s.replayed) i; skipped = sym (zero-add s.skipped) i }) k
   run_reaches (f ∷ fs) k s ts c h = go (leb f.sequence q) c h (λ t. run_reaches fs k t ts)
     where
       onwards : (t : State A) → Type 0
-      onwards t = Consecutive t.sequence (above q fs) → apply_frames K L (above q fs) t.records ≡ answer ts → run K L q fs (tail k) t ≡ reached (tallied fs t ts) k
+      onwards t = Consecutive t.sequence (above q fs) → apply_frames K L (above q fs) t.records ≡ Ok ts → run K L q fs (tail k) t ≡ reached (tallied fs t ts) k
 
-      applied : (x : Result (List A)) → (x >>= apply_frames K L (above q fs)) ≡ answer ts → Consecutive f.sequence (above q fs) → ((t : State A) → onwards t)
-          → onward f.start (x >>= λ rs. answer (play f s rs)) (run K L q fs (tail k))
+      applied : (x : Answer (List A)) → (x >>= apply_frames K L (above q fs)) ≡ Ok ts → Consecutive f.sequence (above q fs) → ((t : State A) → onwards t)
+          → onward f.start (x >>= λ rs. Ok (play f s rs)) (run K L q fs (tail k))
           ≡ reached (record { records = ts; sequence = last_sequence f.sequence (above q fs); replayed = suc (length (above q fs)) + s.replayed; skipped = length (up_to q fs) + s.skipped }) k
-      applied (answer rs) h c rest =
+      applied (Ok rs) h c rest =
           let more : length (above q fs) + suc s.replayed ≡ suc (length (above q fs)) + s.replayed = omega arith in
           rest (play f s rs) c h
           ∙ (λ i. reached (record { records = ts; sequence = last_sequence f.sequence (above q fs); replayed = more i; skipped = length (up_to q fs) + s.skipped }) k)
-      applied (refused why) h c rest = absurd (refused_no_answer _ ts h)
+      applied (Err why) h c rest = absurd (refused_no_answer _ ts h)
 
-      go : (x : Bool) → Consecutive s.sequence (cond x (above q fs) (f ∷ above q fs)) → apply_frames K L (cond x (above q fs) (f ∷ above q fs)) s.records ≡ answer ts
+      go : (x : Bool) → Consecutive s.sequence (cond x (above q fs) (f ∷ above q fs)) → apply_frames K L (cond x (above q fs) (f ∷ above q fs)) s.records ≡ Ok ts
           → ((t : State A) → onwards t)
-          → onward f.start (cond x (answer (skip s)) (replay_frame K L f s)) (run K L q fs (tail k))
+          → onward f.start (cond x (Ok (skip s)) (replay_frame K L f s)) (run K L q fs (tail k))
           ≡ reached (record { records = ts; sequence = last_sequence s.sequence (cond x (above q fs) (f ∷ above q fs)); replayed = length (cond x (above q fs) (f ∷ above q fs)) + s.replayed; skipped = length (cond x (f ∷ up_to q fs) (up_to q fs)) + s.skipped }) k
       go true c h rest =
           let more : length (up_to q fs) + suc s.skipped ≡ suc (length (up_to q fs)) + s.skipped = omega arith in
@@ -151,7 +152,7 @@ module _ {A : Type 0} (K : Kind A) (L : Bounds) (q : ℕ) where
           rw (eq-eqb f.sequence (s.sequence + 1) c.0) (applied (apply_all K L f.shape f.operations s.records) h c.1 rest)
 
   pub replay_reaches : (rs : List A) (fs : List (Frame A)) (k : ℕ) (ts : List A)
-      → Consecutive q (above q fs) → apply_frames K L (above q fs) rs ≡ answer ts
+      → Consecutive q (above q fs) → apply_frames K L (above q fs) rs ≡ Ok ts
       → replay K L q rs (record { frames = fs; ended = tail k }) ≡ reached (tallied fs (begins q rs) ts) k
   unfolding replay
   replay_reaches rs fs k ts c h = run_reaches fs k (begins q rs) ts c h

@@ -1,5 +1,6 @@
 -- Cut a log after some frame and take the state there for a new snapshot: the whole log, and the log without its front, come to the same.
 -- The two runs go in step over the frames after the cut, for the old and the new snapshot's sequence part those alike.
+use Rattle.std.specs.Prelude.{Ok, Err}
 use Prim.Native.Nat.{ℕ, suc, ◌+◌, ◌≤◌, ◌<◌}
 use native.Mathlib.Nat.{add-suc, add-zero, zero-add}
 use native.Mathlib.Omega.{arith}
@@ -9,7 +10,7 @@ use mathlib.Core.Path.{◌≡◌, refl, sym, ap, subst, ◌∙◌}
 use lib.ListN.{length}
 use lib.Dec.{leb, eqb}
 use borrow.Author.Tests.{le-leb, lt-leb}
-use Rattle.refusal.specs.Refusal.{Result, answer, refused, refuse, ◌>>=◌}
+use Rattle.refusal.specs.Refusal.{Answer, refuse, ◌>>=◌}
 use Rattle.refusal.specs.declared.Refusal.{Refusal}
 use Rattle.refusal.specs.declared.Refusal.TheVariants.{GapAfterSnapshot}
 use Rattle.meaning.specs.Replay.{begins, Kind, Frame, End, tail, bad, State, Outcome, reached, stopped, Bounds, apply_all, skip, play, replay_frame, step, run, replay, onward}
@@ -103,7 +104,7 @@ pub record RestAlone {A : Type 0} (K : Kind A) (L : Bounds) (s u : State A) (gs 
   pub skipped : u.skipped ≡ s.skipped + state.skipped
 
 module _ {A : Type 0} (K : Kind A) (L : Bounds) where
-  pub step_counting : (q a b : ℕ) (f : Frame A) (s : State A) → step K L q f (counted_before a b s) ≡ (step K L q f s >>= λ t. answer (counted_before a b t))
+  pub step_counting : (q a b : ℕ) (f : Frame A) (s : State A) → step K L q f (counted_before a b s) ≡ (step K L q f s >>= λ t. Ok (counted_before a b t))
   unfolding step replay_frame
   step_counting q a b f s = go (leb f.sequence q)
     where
@@ -113,21 +114,21 @@ module _ {A : Type 0} (K : Kind A) (L : Bounds) where
       playing : (rs : List A) → play f (counted_before a b s) rs ≡ counted_before a b (play f s rs)
       playing rs = λ i. record { records = rs; sequence = f.sequence; replayed = sym (add-suc a s.replayed) i; skipped = b + s.skipped }
 
-      applied : (x : Result (List A))
-          → (x >>= λ rs. answer (play f (counted_before a b s) rs)) ≡ ((x >>= λ rs. answer (play f s rs)) >>= λ t. answer (counted_before a b t))
-      applied (answer rs) = ap (λ (t : State A). answer t) (playing rs)
-      applied (refused why) = refl
+      applied : (x : Answer (List A))
+          → (x >>= λ rs. Ok (play f (counted_before a b s) rs)) ≡ ((x >>= λ rs. Ok (play f s rs)) >>= λ t. Ok (counted_before a b t))
+      applied (Ok rs) = ap (λ (t : State A). Ok t) (playing rs)
+      applied (Err why) = refl
 
       next : (x : Bool)
-          → (refuse GapAfterSnapshot x >>= λ _. apply_all K L f.shape f.operations s.records >>= λ rs. answer (play f (counted_before a b s) rs))
-          ≡ ((refuse GapAfterSnapshot x >>= λ _. apply_all K L f.shape f.operations s.records >>= λ rs. answer (play f s rs)) >>= λ t. answer (counted_before a b t))
+          → (refuse GapAfterSnapshot x >>= λ _. apply_all K L f.shape f.operations s.records >>= λ rs. Ok (play f (counted_before a b s) rs))
+          ≡ ((refuse GapAfterSnapshot x >>= λ _. apply_all K L f.shape f.operations s.records >>= λ rs. Ok (play f s rs)) >>= λ t. Ok (counted_before a b t))
       next true = refl
       next false = applied (apply_all K L f.shape f.operations s.records)
 
       go : (x : Bool)
-          → cond x (answer (skip (counted_before a b s))) (replay_frame K L f (counted_before a b s))
-          ≡ (cond x (answer (skip s)) (replay_frame K L f s) >>= λ t. answer (counted_before a b t))
-      go true = ap (λ (t : State A). answer t) skipping
+          → cond x (Ok (skip (counted_before a b s))) (replay_frame K L f (counted_before a b s))
+          ≡ (cond x (Ok (skip s)) (replay_frame K L f s) >>= λ t. Ok (counted_before a b t))
+      go true = ap (λ (t : State A). Ok t) skipping
       go false = next (not (eqb f.sequence (s.sequence + 1)))
 
   -- frames counted before change nothing but the counts
@@ -136,24 +137,24 @@ module _ {A : Type 0} (K : Kind A) (L : Bounds) where
   run_counting q a b [] (tail k) s = refl
   run_counting q a b [] (bad why k) s = refl
   run_counting q a b (f ∷ fs) e s =
-      ap (λ (x : Result (State A)). onward f.start x (run K L q fs e)) (step_counting q a b f s) ∙ go (step K L q f s) (run_counting q a b fs e)
+      ap (λ (x : Answer (State A)). onward f.start x (run K L q fs e)) (step_counting q a b f s) ∙ go (step K L q f s) (run_counting q a b fs e)
     where
-      go : (x : Result (State A)) → ((t : State A) → run K L q fs e (counted_before a b t) ≡ counted a b (run K L q fs e t))
-          → onward f.start (x >>= λ t. answer (counted_before a b t)) (run K L q fs e) ≡ counted a b (onward f.start x (run K L q fs e))
-      go (answer t) rest = rest t
-      go (refused why) rest = refl
+      go : (x : Answer (State A)) → ((t : State A) → run K L q fs e (counted_before a b t) ≡ counted a b (run K L q fs e t))
+          → onward f.start (x >>= λ t. Ok (counted_before a b t)) (run K L q fs e) ≡ counted a b (onward f.start x (run K L q fs e))
+      go (Ok t) rest = rest t
+      go (Err why) rest = refl
 
   pub run_alike : (p q : ℕ) (fs : List (Frame A)) (e : End) (s : State A) → Alike p q fs → run K L p fs e s ≡ run K L q fs e s
   unfolding run step
   run_alike p q [] e s h = refl
   run_alike p q (f ∷ fs) e s h =
-      ap (λ (b : Bool). onward f.start (cond b (answer (skip s)) (replay_frame K L f s)) (run K L p fs e)) h.0
-      ∙ go (cond (leb f.sequence q) (answer (skip s)) (replay_frame K L f s)) (λ t. run_alike p q fs e t h.1)
+      ap (λ (b : Bool). onward f.start (cond b (Ok (skip s)) (replay_frame K L f s)) (run K L p fs e)) h.0
+      ∙ go (cond (leb f.sequence q) (Ok (skip s)) (replay_frame K L f s)) (λ t. run_alike p q fs e t h.1)
     where
-      go : (x : Result (State A)) → ((t : State A) → run K L p fs e t ≡ run K L q fs e t)
+      go : (x : Answer (State A)) → ((t : State A) → run K L p fs e t ≡ run K L q fs e t)
           → onward f.start x (run K L p fs e) ≡ onward f.start x (run K L q fs e)
-      go (answer t) rest = rest t
-      go (refused why) rest = refl
+      go (Ok t) rest = rest t
+      go (Err why) rest = refl
 
   -- frames at or below the snapshot's sequence are counted as skipped, and do nothing else
   pub run_skipped : (q : ℕ) (fs gs : List (Frame A)) (e : End) (s : State A) → AllUpTo q fs → run K L q (fs ++ gs) e s ≡ run K L q gs e (counted_before 0 (length fs) s)
@@ -161,7 +162,7 @@ module _ {A : Type 0} (K : Kind A) (L : Bounds) where
   run_skipped q [] gs e s h =
       ap (run K L q gs e) (λ i. record { records = s.records; sequence = s.sequence; replayed = sym (zero-add s.replayed) i; skipped = sym (zero-add s.skipped) i })
   run_skipped q (f ∷ fs) gs e s h =
-      ap (λ (b : Bool). onward f.start (cond b (answer (skip s)) (replay_frame K L f s)) (run K L q (fs ++ gs) e)) (le-leb _ _ h.0)
+      ap (λ (b : Bool). onward f.start (cond b (Ok (skip s)) (replay_frame K L f s)) (run K L q (fs ++ gs) e)) (le-leb _ _ h.0)
       ∙ run_skipped q fs gs e (skip s) h.1
       ∙ ap (run K L q gs e) (λ i. record { records = s.records; sequence = s.sequence; replayed = 0 + s.replayed; skipped = one_more i })
     where

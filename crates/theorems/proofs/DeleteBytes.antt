@@ -1,4 +1,5 @@
 -- The playout host's delete frame: 29 bytes, what the encoder writes of one delete, and appended to a log it is that delete.
+use Rattle.std.specs.Prelude.{Ok}
 use Prim.Native.Nat.{ℕ, zero, suc, ◌≤◌, ◌<◌, ◌^◌}
 use mathlib.Core.Path.{◌≡◌, refl, ap, ◌∙◌}
 use mathlib.Core.Bool.{Bool, false}
@@ -14,7 +15,6 @@ use Rattle.config.specs.Settings.{validate}
 use Rattle.config.specs.declared.Config.{Config}
 use Rattle.rows.specs.Rows.{operation_of}
 use Rattle.rows.proofs.RowLaws.{operation_of_parts}
-use Rattle.refusal.specs.Refusal.{answer}
 use Rattle.refusal.specs.declared.Refusal.TheVariants.{WrongLength, WrongSequence, OutputTooShort}
 use Rattle.layout.specs.Layout.{frame_length}
 use Rattle.meaning.specs.Replay.{remove, Frame, tail}
@@ -58,8 +58,8 @@ delete_appended c sequence id p q r log fs e follows = any_frame_appended Single
 no_put : (id : ℕ) → (operation_of id 0).put ≡ false
 no_put id = ap (λ x. x.put) (operation_of_parts id 0)
 
-pub delete_encodes : (c : Config) (sequence id : ℕ) (captions : List ℕ) (room : ℕ) → validate c ≡ answer tt → 0 < sequence → 29 ≤ room
-    → encode Single c sequence (id ∷ 0 ∷ []) [] captions room ≡ answer (delete_frame sequence id)
+pub delete_encodes : (c : Config) (sequence id : ℕ) (captions : List ℕ) (room : ℕ) → validate c ≡ Ok tt → 0 < sequence → 29 ≤ room
+    → encode Single c sequence (id ∷ 0 ∷ []) [] captions room ≡ Ok (delete_frame sequence id)
 unfolding encode encode_valid words_checked encode_operations encode_all encode_delete sealed put_count asked_from
 delete_encodes c sequence id captions room v p r =
     let payload : List ℕ = 2 ∷ (bytes 8 sequence ++ bytes 8 id) in

@@ -1,4 +1,5 @@
 -- A delete of a live ID, appended to a log that recovery read to its last byte: the next recovery accepts, with that ID deleted.
+use Rattle.std.specs.Prelude.{Ok}
 use Prim.Native.Nat.{ℕ, suc, ◌+◌, ◌≤◌, ◌<◌, ◌^◌}
 use native.Mathlib.Omega.{arith}
 use mathlib.Core.Path.{◌≡◌, refl, sym, ap, ap₂, ◌∙◌, subst}
@@ -10,7 +11,7 @@ use borrow.Author.Tests.{lt-leb, eq-eqb}
 use Rattle.config.specs.Limits.{max_log_bytes}
 use Rattle.config.specs.declared.Config.{Config}
 use Rattle.fields.specs.Fields.{Bytes}
-use Rattle.refusal.specs.Refusal.{Result, answer}
+use Rattle.refusal.specs.Refusal.{Answer}
 use Rattle.meaning.specs.Replay.{Kind, remove, Frame, Frames, State, reached, Bounds, live_as, active, mark, apply_remove, apply_all, play, replay_frame, step, onward, begins}
 use Rattle.meaning.specs.Records.{Record, delete_row, delete_record, row_kind, record_kind, seen}
 use Rattle.rows.specs.declared.Row.{Row}
@@ -97,7 +98,7 @@ module _ (K : Kind Row) (L : Bounds) (q : ℕ) where
 -- above the snapshot and next, of a live ID: it is replayed, and marks that ID
 delete_steps : (K : Kind Row) (L : Bounds) (q : ℕ) (f : Frame Row) (id : ℕ) (s : State Row) → f.operations ≡ remove id ∷ []
     → q < f.sequence → f.sequence ≡ s.sequence + 1 → active K id s.records ≡ true
-    → step K L q f s ≡ answer (play f s (mark K id s.records))
+    → step K L q f s ≡ Ok (play f s (mark K id s.records))
 unfolding step replay_frame apply_all apply_remove
 delete_steps K L q f id s o above next live = rw (lt-leb f.sequence q above, eq-eqb f.sequence (s.sequence + 1) next, o, live) refl
 
@@ -139,13 +140,13 @@ module _ (lent : ℕ) (snapshot log : List ℕ) (r : Recovered) (given : recover
       ap (λ (n : ℕ). n + 1) (ran_from_snapshot kind (bounds_for lent) a.read.sequence fs a.read.rows r.state (frames_led lent snapshot log r a) (log_numbered a.read.config log) some high)
 
   -- a log of which recovery replayed a frame is not older
-  pub replayed_not_older : (S : Snapshot) → read_snapshot lent snapshot ≡ answer S → 0 < r.state.replayed → NotOlder S log
+  pub replayed_not_older : (S : Snapshot) → read_snapshot lent snapshot ≡ Ok S → 0 < r.state.replayed → NotOlder S log
   replayed_not_older S reads some =
       subst (λ (x : Snapshot). NotOlder x log) (answer_injective a.read S (sym a.reads ∙ reads))
       (inr (played_from_snapshot kind (bounds_for lent) a.read.sequence fs a.read.rows r.state (frames_led lent snapshot log r a) (log_numbered a.read.config log) some))
 
   -- the next recovery
-  pub delete_recovered : (S : Snapshot) → read_snapshot lent snapshot ≡ answer S → NotOlder S log → tail_length log r ≡ 0
+  pub delete_recovered : (S : Snapshot) → read_snapshot lent snapshot ≡ Ok S → NotOlder S log → tail_length log r ≡ 0
       → (sequence id : ℕ) → sequence ≡ r.state.sequence + 1 → sequence < 256 ^ 8 → id < 256 ^ 8
       → active (row_kind r.config.dimensions) id (rows_of r) ≡ true → length log + 29 ≤ max_log_bytes
       → recover lent snapshot (log ++ delete_frame sequence id) ≡ recovered (with_deleted id r)
@@ -161,7 +162,7 @@ module _ (lent : ℕ) (snapshot log : List ℕ) (r : Recovered) (given : recover
       let fits : length longer ≤ max_log_bytes = omega arith in
       recover_appended lent snapshot log r a Single sequence (remove id ∷ []) (delete_framed R.config sequence id (omega arith) q k) all
       (subst (Follows (last_sequence 0 fs)) (sym next) (next_follows newer')) fits
-      ∙ ap (λ (x : Result (State Row)). ended R (onward (length log) x (λ t. reached t (length longer))))
+      ∙ ap (λ (x : Answer (State Row)). ended R (onward (length log) x (λ t. reached t (length longer))))
       (delete_steps kind (bounds_for lent) R.sequence f id r.state refl (omega arith) next here)
       ∙ λ i.
       recovered

@@ -1,4 +1,5 @@
 -- What the encoders write is decoded as the operations that were asked for, wherever the frame stands in a log.
+use Rattle.std.specs.Prelude.{Ok}
 use Prim.Native.Nat.{ℕ, ◌+◌, ◌*◌, ◌/◌, ◌%◌, ◌≤◌, ◌<◌, ◌^◌}
 use mathlib.Core.Path.{◌≡◌, refl, sym, ap, subst, ◌∙◌}
 use mathlib.Core.Bool.{not}
@@ -10,7 +11,6 @@ use Rattle.fields.specs.Fields.{Bytes}
 use Rattle.config.specs.Limits.{min_frame, max_frame, max_batch_operations}
 use Rattle.config.specs.Settings.{validate}
 use Rattle.config.specs.declared.Config.{Config}
-use Rattle.refusal.specs.Refusal.{answer}
 use Rattle.refusal.specs.declared.Refusal.TheVariants.{WrongLength, WrongSequence, WrongBatchCount, OutputTooShort, RequestMalformed}
 use Rattle.layout.specs.Layout.{frame_length}
 use Rattle.meaning.specs.Log.{found}
@@ -27,7 +27,7 @@ use Rattle.refusal.proofs.Results.{answer_injective, passed, went, not_refused}
 use Rattle.meaning.proofs.Lengths.{length_frame, length_asked}
 
 -- ---- what an accepted request says
-sealed_read : (room : ℕ) (payload bs : List ℕ) → sealed room payload ≡ answer bs
+sealed_read : (room : ℕ) (payload bs : List ℕ) → sealed room payload ≡ Ok bs
     → (length payload ≤ max_frame) × (frame_length (length payload) ≤ room) × (bs ≡ frame_bytes payload)
 unfolding sealed
 sealed_read room payload bs e =
@@ -35,21 +35,21 @@ sealed_read room payload bs e =
     let s2 = went OutputTooShort (ltb room (frame_length (length payload))) _ bs s1.then in
     (ltb-false max_frame (length payload) s1.test_false, ltb-false room (frame_length (length payload)) s2.test_false, sym (answer_injective (frame_bytes payload) bs s2.then))
 
-count_read : (shape : Shape) (n : ℕ) → batch_count shape n ≡ answer tt → single_count shape n ≡ answer tt → CountHolds shape n
+count_read : (shape : Shape) (n : ℕ) → batch_count shape n ≡ Ok tt → single_count shape n ≡ Ok tt → CountHolds shape n
 count_read Single n h k = eqb-true n 1 (not-false (eqb n 1) (not_refused RequestMalformed (not (eqb n 1)) k))
 count_read Batch n h k =
     let s = went WrongBatchCount (ltb n 1) _ tt h in
     (ltb-false n 1 s.test_false, ltb-false max_batch_operations n (not_refused WrongBatchCount (ltb max_batch_operations n) s.then))
 
 pub record EncodeSays (shape : Shape) (c : Config) (sequence : ℕ) (words coords captions : List ℕ) (room : ℕ) (bs : List ℕ) : Type 0 where
-  pub valid : validate c ≡ answer tt
+  pub valid : validate c ≡ Ok tt
   pub even : length words % 2 ≡ 0
   pub coordinates_are : length coords ≡ c.dimensions * put_count (asked words)
   pub framed : Framed c shape sequence (requested c words coords captions)
   pub bytes_are : bs ≡ frame_of shape sequence (requested c words coords captions)
   pub room_there : length bs ≤ room
 
-module _ (shape : Shape) (c : Config) (sequence : ℕ) (words coords captions : List ℕ) (room : ℕ) (bs : List ℕ) (w : Every (λ x. x < 2 ^ 64) words) (q : sequence < 256 ^ 8) (e : encode shape c sequence words coords captions room ≡ answer bs) where
+module _ (shape : Shape) (c : Config) (sequence : ℕ) (words coords captions : List ℕ) (room : ℕ) (bs : List ℕ) (w : Every (λ x. x < 2 ^ 64) words) (q : sequence < 256 ^ 8) (e : encode shape c sequence words coords captions room ≡ Ok bs) where
   pub encode_read : EncodeSays shape c sequence words coords captions room bs
   unfolding encode encode_valid words_checked encode_operations
   encode_read =

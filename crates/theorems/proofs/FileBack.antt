@@ -1,4 +1,5 @@
 -- What the writer writes is read back, and a file that is accepted is read as what it was made of: the same settings, sequence and records.
+use Rattle.std.specs.Prelude.{Ok}
 use Prim.Native.Nat.{ℕ, ◌+◌, ◌*◌, ◌≤◌}
 use mathlib.Core.Path.{◌≡◌, refl, sym, ap, subst, ◌∙◌, ap₂}
 use mathlib.Core.Bool.{false}
@@ -12,7 +13,6 @@ use Rattle.fields.proofs.Numbers.{length_bytes}
 use Rattle.config.specs.Limits.{max_snapshot_bytes, max_records}
 use Rattle.config.specs.Settings.{validate}
 use Rattle.config.specs.declared.Config.{Config}
-use Rattle.refusal.specs.Refusal.{answer}
 use Rattle.meaning.specs.Replay.{size}
 use Rattle.meaning.specs.Records.{Record, record_kind, seen}
 use Rattle.layout.specs.Layout.{record_length, header_length, snapshot_length}
@@ -70,7 +70,7 @@ size_low d (r ∷ rs) = omega (arith, size_low d rs)
 -- a file of records that a reader accepts
 pub record Acceptable (v : Version) (c : Config) (sequence : ℕ) (records : List Record) : Type 0 where
   pub fields : HeaderFits v c sequence (length records)
-  pub valid : validate c ≡ answer tt
+  pub valid : validate c ≡ Ok tt
   pub few : length records ≤ max_records
   pub ordered : over_sequence v sequence (length records) ≡ false
   pub short : length (file_with v c sequence records) ≤ max_snapshot_bytes
@@ -82,7 +82,7 @@ snapshot_of v c sequence records =
     record { config = c; crc = crc_of (body_with v c sequence records); sequence = sequence; rows = file_rows (header_length v) records }
 
 pub file_with_header_back : (v : Version) (c : Config) (q : ℕ) (rs : List Record) → Acceptable v c q rs
-    → read_header (file_with v c q rs) ≡ answer (header_with v c q (length rs))
+    → read_header (file_with v c q rs) ≡ Ok (header_with v c q (length rs))
 file_with_header_back v c q rs a =
     let d = c.dimensions in
     let f = file_stands v c q rs a.fields in
@@ -92,7 +92,7 @@ file_with_header_back v c q rs a =
     header_back v (file_with v c q rs) c q (length rs) _ f.header a.valid a.few a.ordered (omega arith) a.short
 
 pub file_with_back : (lent : ℕ) (v : Version) (c : Config) (q : ℕ) (rs : List Record) → Acceptable v c q rs → length rs ≤ lent
-    → read_snapshot lent (file_with v c q rs) ≡ answer (snapshot_of v c q rs)
+    → read_snapshot lent (file_with v c q rs) ≡ Ok (snapshot_of v c q rs)
 file_with_back lent v c q rs a enough =
     let d = c.dimensions in
     let n = length rs in
@@ -117,7 +117,7 @@ file_with_back lent v c q rs a enough =
       crc_is = ap crc_of f.body_is ∙ sym crc_is;
     })
     (live_twice_of_single d rows single)
-    ∙ ap (λ (k : ℕ). answer (record { config = c; crc = k; sequence = q; rows = rows })) crc_is
+    ∙ ap (λ (k : ℕ). Ok (record { config = c; crc = k; sequence = q; rows = rows })) crc_is
 
 -- ---- the file that is written: version 2, deleted records without captions
 length_body : (v : Version) (c : Config) (q : ℕ) (rs : List Record) → length (body_with v c q rs) ≡ header_length v + length (records_bytes rs)
@@ -159,13 +159,13 @@ acceptable c q rs k =
 
 -- its header is read back
 pub file_header_back : (c : Config) (q : ℕ) (rs : List Record) → Storable c q rs
-    → read_header (file_of c q rs) ≡ answer (record { config = c; sequence = q; count = length rs; first = 52 })
+    → read_header (file_of c q rs) ≡ Ok (record { config = c; sequence = q; count = length rs; first = 52 })
 unfolding file_with file_of header_of header_bytes
 file_header_back c q rs k = file_with_header_back Two c q rs (acceptable c q rs k)
 
 -- it is accepted where as many rows are lent
 pub file_back : (lent : ℕ) (c : Config) (q : ℕ) (rs : List Record) → Storable c q rs → length rs ≤ lent
-    → read_snapshot lent (file_of c q rs) ≡ answer (record { config = c; crc = crc_of (body_bytes c q rs); sequence = q; rows = file_rows 52 rs })
+    → read_snapshot lent (file_of c q rs) ≡ Ok (record { config = c; crc = crc_of (body_bytes c q rs); sequence = q; rows = file_rows 52 rs })
 unfolding file_with file_of header_of header_bytes
 file_back lent c q rs k enough = file_with_back lent Two c q rs (acceptable c q rs k) enough
 
@@ -185,13 +185,13 @@ file_sourced c q rs log k = records_sourced c (file_of c q rs) log 52 rs _ (reco
 -- deleted records may have captions there
 pub file_read : (lent : ℕ) (v : Version) (c : Config) (q : ℕ) (rs : List Record) (x : Snapshot)
     → HeaderFits v c q (length rs) → Every (Shaped c.dimensions) rs
-    → read_snapshot lent (file_with v c q rs) ≡ answer x → x ≡ snapshot_of v c q rs
+    → read_snapshot lent (file_with v c q rs) ≡ Ok x → x ≡ snapshot_of v c q rs
 file_read lent v c q rs x fits shaped e =
     let s = file_with v c q rs in
     let f = file_stands v c q rs fits in
     let r = (snapshot_facts lent s x e).parts in
     let h : header_in r.version s r.metric ≡ header_with v c q (length rs) = header_seen v s c q (length rs) _ _ f.header r.facts.header_is in
-    let found-is : records_at (length rs) c s (body_length s) (header_length v) ≡ answer r.found =
+    let found-is : records_at (length rs) c s (body_length s) (header_length v) ≡ Ok r.found =
     ap (λ (y : Header). records_at y.count y.config s (body_length s) y.first) (sym h) ∙ r.facts.records_are in
     let g : r.found ≡ all_at (header_length v) rs = records_read c s (body_length s) (header_length v) rs _ r.found f.header.behind shaped found-is in
     sym r.is ∙ ap₂ (snapshot_in s) h g ∙ ap (λ (k : ℕ). record { config = c; crc = k; sequence = q; rows = file_rows (header_length v) rs }) f.crc_is

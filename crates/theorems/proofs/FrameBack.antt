@@ -1,4 +1,5 @@
 -- A frame of operations by value, wherever it stands in a log: it is found, and its rows show the same operations.
+use Rattle.std.specs.Prelude.{Ok}
 use Prim.Native.Nat.{ℕ, ◌+◌, ◌≤◌, ◌<◌, ◌^◌}
 use mathlib.Core.Path.{◌≡◌, refl, sym, ap, subst, ◌∙◌}
 use mathlib.Core.List.{List, [], ◌∷◌, ◌++◌, append_assoc, map}
@@ -10,7 +11,6 @@ use Rattle.fields.specs.Fields.{part, num, bytes, Bytes}
 use Rattle.fields.proofs.Numbers.{length_bytes, Bytes-nil, Bytes-cons, Bytes-append, Bytes-bytes}
 use Rattle.config.specs.Limits.{min_frame, max_frame, max_batch_operations}
 use Rattle.config.specs.declared.Config.{Config}
-use Rattle.refusal.specs.Refusal.{answer}
 use Rattle.layout.specs.Layout.{frame_length}
 use Rattle.meaning.specs.Replay.{Operation, put, remove}
 use Rattle.meaning.specs.Records.{Record, seen}
@@ -122,7 +122,7 @@ opcode_shape Batch os = refl
 body_back : (shape : Shape) (c : Config) (log : List ℕ) (end at : ℕ) (os : List (Operation Record)) (rest : List ℕ)
     → drop (at + 17) log ≡ behind_sequence shape os ++ rest → end ≡ at + 17 + length (behind_sequence shape os) → CountHolds shape (length os) → Every (Loggable c) os
     → operations_of shape c log end (opcode_of shape os) (at + 17)
-    ≡ answer (record { operations = operation_rows shape at os; next = end })
+    ≡ Ok (record { operations = operation_rows shape at os; next = end })
 body_back Single c log end at [] rest h e n k = absurd (omega arith)
 body_back Single c log end at (o ∷ []) rest h e n k =
     single_reads c log end (tag_of o) (at + 17) (record { operations = logged_at (at + 17) o ∷ []; next = end }) (record {
@@ -152,7 +152,7 @@ body_back Batch c log end at os rest h e n k =
       operations_here =
           ap (λ (x : ℕ). operations_at x c log end (at + 17 + 4)) count_is
           ∙ operations_back c log end (at + 17 + 4) os rest h1 room k
-          ∙ (λ i. answer (record { operations = logged_from (e21 i) os; next = next_is i }));
+          ∙ (λ i. Ok (record { operations = logged_from (e21 i) os; next = next_is i }));
     })
 
 body_seen : (shape : Shape) (c : Config) (snapshot log : List ℕ) (at : ℕ) (os : List (Operation Record)) (rest : List ℕ)
@@ -216,12 +216,12 @@ module _ (shape : Shape) (c : Config) (sequence : ℕ) (os : List (Operation Rec
       let end = at + 8 + n in
       let end_is : end ≡ at + 17 + length (behind_sequence shape os) = omega arith in
       let opcode_is = p.opcode_is in
-      let operations_are : operations_read c log end at ≡ answer (record { operations = operation_rows shape at os; next = end }) =
+      let operations_are : operations_read c log end at ≡ Ok (record { operations = operation_rows shape at os; next = end }) =
       ap (λ (x : ℕ). operations_of (shape_of x) c log end x (at + 17)) opcode_is
       ∙ ap (λ (x : Shape). operations_of x c log end (opcode_of shape os) (at + 17)) (opcode_shape shape os)
       ∙ body_back shape c log end at os _ p.body_here end_is k.count k.loggable in
       let order = order_reads previous sequence (record { positive = k.positive; one_more = follows }) in
-      let payload_answers : payload_at c log previous at n ≡ answer (frame_in shape sequence at os) =
+      let payload_answers : payload_at c log previous at n ≡ Ok (frame_in shape sequence at os) =
       payload_reads c log previous at n (frame_in shape sequence at os) (record {
         crc_good = s.payload_crc;
         in_order = rw p.sequence_is order;
@@ -230,9 +230,9 @@ module _ (shape : Shape) (c : Config) (sequence : ℕ) (os : List (Operation Rec
         shape_is = sym (ap shape_of opcode_is ∙ opcode_shape shape os);
         operations_read_lem = operations_are;
       }) in
-      let length_answers : length_at log at ≡ answer n = length_reads log at n (record { length_is = sym n_is; crc_good = s.length_crc; least = low; most = short }) in
+      let length_answers : length_at log at ≡ Ok n = length_reads log at n (record { length_is = sym n_is; crc_good = s.length_crc; least = low; most = short }) in
       frame_reads c log previous at (frame_in shape sequence at os) (at + length (frame_of shape sequence os)) (record {
-        length_answers = length_answers ∙ ap (λ (x : ℕ). answer x) (sym n_is);
+        length_answers = length_answers ∙ ap (λ (x : ℕ). Ok x) (sym n_is);
         least = omega arith;
         most = omega arith;
         inside = omega arith;

@@ -1,6 +1,7 @@
 -- Demand 3. Cut the log where recovery has read every byte of the front; write the full snapshot of the state there, if it fits.
 -- Beside the whole log it recovers to the same as the old snapshot; beside the rest, where the old pair was accepted, to the same
 -- records, settings, sequence and tail.
+use Rattle.std.specs.Prelude.{Ok}
 use Prim.Native.Nat.{ℕ, ◌+◌, ◌-◌, ◌≤◌}
 use native.Mathlib.Omega.{arith}
 use mathlib.Core.Path.{◌≡◌, refl, sym, ap, ap₂, ◌∙◌, subst}
@@ -11,7 +12,6 @@ use Rattle.fields.specs.Fields.{Bytes}
 use Rattle.fields.proofs.Numbers.{Bytes-left, Bytes-right}
 use Rattle.config.specs.Limits.{max_snapshot_bytes, max_log_bytes}
 use Rattle.config.specs.declared.Config.{Config}
-use Rattle.refusal.specs.Refusal.{answer}
 use Rattle.meaning.specs.Replay.{Frame, End, tail, Frames, State, Outcome, reached, stopped, replay}
 use Rattle.meaning.specs.Records.{Record, row_kind, seen}
 use Rattle.rows.specs.declared.Row.{Row}
@@ -149,7 +149,7 @@ module _ (lent : ℕ) (snapshot front rest : List ℕ) (r : Recovered) (bs : Byt
       (in_frames (Logged c snapshot log) (λ x. weighed d written log x ≡ h x) (λ x l. weighed_alike d written snapshot log x l.from_log) (frames_of c log).frames (frames_logged c snapshot log bl)))
 
   module _ (short : length written ≤ max_snapshot_bytes) where
-    read_back : read_snapshot lent written ≡ answer (record { config = c; crc = crc_of (body_bytes c q records); sequence = q; rows = file_rows 52 records })
+    read_back : read_snapshot lent written ≡ Ok (record { config = c; crc = crc_of (body_bytes c q records); sequence = q; rows = file_rows 52 records })
     read_back =
         let n = length-map r.state.records (seen d snapshot front) in
         let e = stands.enough in

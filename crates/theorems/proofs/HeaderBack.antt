@@ -1,4 +1,5 @@
 -- A snapshot's header as it stands in a file, of either version: its fields are read back.
+use Rattle.std.specs.Prelude.{Ok, Err}
 use Prim.Native.Nat.{ℕ, ◌+◌, ◌*◌, ◌-◌, ◌≤◌, ◌<◌, ◌^◌}
 use mathlib.Core.Path.{◌≡◌, refl, sym, ap, ap₂, subst, ◌∙◌}
 use mathlib.Core.Bool.{Bool, true, false, cond}
@@ -13,7 +14,6 @@ use Rattle.config.specs.Limits.{max_snapshot_bytes, max_records}
 use Rattle.config.specs.Settings.{validate, metric_number, ef_of, metric_of}
 use Rattle.config.specs.declared.Config.{Config}
 use Rattle.config.specs.declared.Metric.{Metric}
-use Rattle.refusal.specs.Refusal.{answer, refused}
 use Rattle.refusal.specs.declared.Refusal.TheVariants.{WrongVersion}
 use Rattle.layout.specs.Layout.{record_length, magic, metric_length, header_length}
 use Rattle.meaning.specs.Snapshot.{version_of, header_metric, body_length, over_sequence, header_config, header_sequence, header_count, Header, read_header}
@@ -27,18 +27,18 @@ use borrow.Author.Tests.{eqb-true}
 use Rattle.refusal.proofs.Results.{answer_injective, refused_no_answer}
 
 -- ---- a version by its number
-pub version_read : (v : Version) → version_of (version_number v) ≡ answer v
+pub version_read : (v : Version) → version_of (version_number v) ≡ Ok v
 version_read One = refl
 version_read Two = refl
 
-pub version_of_read : (n : ℕ) (v : Version) → version_of n ≡ answer v → n ≡ version_number v
+pub version_of_read : (n : ℕ) (v : Version) → version_of n ≡ Ok v → n ≡ version_number v
 version_of_read n v e = first (eqb n 1) refl e
   where
-    second : (t : Bool) → eqb n 2 ≡ t → cond t (answer Two) (refused WrongVersion) ≡ answer v → n ≡ version_number v
+    second : (t : Bool) → eqb n 2 ≡ t → cond t (Ok Two) (Err WrongVersion) ≡ Ok v → n ≡ version_number v
     second true q e = eqb-true n 2 q ∙ ap version_number (answer_injective Two v e)
     second false q e = absurd (refused_no_answer WrongVersion v e)
 
-    first : (t : Bool) → eqb n 1 ≡ t → cond t (answer One) (cond (eqb n 2) (answer Two) (refused WrongVersion)) ≡ answer v → n ≡ version_number v
+    first : (t : Bool) → eqb n 1 ≡ t → cond t (Ok One) (cond (eqb n 2) (Ok Two) (Err WrongVersion)) ≡ Ok v → n ≡ version_number v
     first true q e = eqb-true n 1 q ∙ ap version_number (answer_injective One v e)
     first false q e = second (eqb n 2) refl e
 
@@ -48,7 +48,7 @@ unfolding header_of
 length_any_header One c sequence count = simp (length-append, length_bytes)
 length_any_header Two c sequence count = simp (length-append, length_bytes)
 
-pub header_fits : (c : Config) (sequence count : ℕ) → validate c ≡ answer tt → c.seed < 256 ^ 8 → sequence < 256 ^ 8 → count ≤ max_records → HeaderFits Two c sequence count
+pub header_fits : (c : Config) (sequence count : ℕ) → validate c ≡ Ok tt → c.seed < 256 ^ 8 → sequence < 256 ^ 8 → count ≤ max_records → HeaderFits Two c sequence count
 header_fits c sequence count valid seed_fits sequence_fits few =
     let b = bounded_of_valid c valid in
     record {
@@ -67,7 +67,7 @@ pub record HeaderStands (v : Version) (s : List ℕ) (c : Config) (sequence coun
   pub dimensions_is : num s 12 4 ≡ c.dimensions
   pub m_is : num s 16 4 ≡ c.m
   pub ef_is : num s 20 4 ≡ ef_of c
-  pub metric_is : header_metric v s ≡ answer c.metric
+  pub metric_is : header_metric v s ≡ Ok c.metric
   pub seed_is : num s (24 + metric_length v) 8 ≡ c.seed
   pub sequence_is : header_sequence v s ≡ sequence
   pub count_is : header_count v s ≡ count
@@ -84,8 +84,8 @@ after_metric : (v : Version) (s : List ℕ) (k : Metric) (rest : List ℕ) → d
 after_metric One s k rest h = h
 after_metric Two s k rest h = after_number s 24 4 (metric_number k) rest h
 
-metric_here : (v : Version) (s : List ℕ) (k : Metric) (rest : List ℕ) → drop 24 s ≡ metric_bytes v k ++ rest → Tells v k → header_metric v s ≡ answer k
-metric_here One s k rest h t = ap answer (sym t)
+metric_here : (v : Version) (s : List ℕ) (k : Metric) (rest : List ℕ) → drop 24 s ≡ metric_bytes v k ++ rest → Tells v k → header_metric v s ≡ Ok k
+metric_here One s k rest h t = ap Ok (sym t)
 metric_here Two s k rest h t =
     ap metric_of (num_here s 24 4 (metric_number k) rest h (metric_fits k)) ∙ read_of_number k
 
@@ -137,7 +137,7 @@ header_of_stands : (v : Version) (s : List ℕ) (c : Config) (q n : ℕ) (rest :
 header_of_stands v s c q n rest h = rw (h.dimensions_is, h.m_is, h.ef_is, h.seed_is, h.sequence_is, h.count_is)
 
 -- a header that is accepted where it stands is read so
-pub header_seen : (v : Version) (s : List ℕ) (c : Config) (q n : ℕ) (rest : List ℕ) (x : Header) → HeaderStands v s c q n rest → read_header s ≡ answer x → x ≡ header_with v c q n
+pub header_seen : (v : Version) (s : List ℕ) (c : Config) (q n : ℕ) (rest : List ℕ) (x : Header) → HeaderStands v s c q n rest → read_header s ≡ Ok x → x ≡ header_with v c q n
 header_seen v s c q n rest x h e =
     let r = header_read s x e in
     let w = r.version in
@@ -147,9 +147,9 @@ header_seen v s c q n rest x h e =
 
 -- a header of valid settings, with room for its records, is accepted where it stands
 pub header_back : (v : Version) (s : List ℕ) (c : Config) (q n : ℕ) (rest : List ℕ) → HeaderStands v s c q n rest
-    → validate c ≡ answer tt → n ≤ max_records → over_sequence v q n ≡ false
+    → validate c ≡ Ok tt → n ≤ max_records → over_sequence v q n ≡ false
     → header_length v + n * record_length c.dimensions 0 + 4 ≤ length s → length s ≤ max_snapshot_bytes
-    → read_header s ≡ answer (header_with v c q n)
+    → read_header s ≡ Ok (header_with v c q n)
 header_back v s c q n rest h valid few ordered room short =
     let d-is = h.dimensions_is in
     let count_is = h.count_is in
@@ -168,4 +168,4 @@ header_back v s c q n rest h valid few ordered room short =
       room = rw (count_is, d-is) ((le-div_iff_mul-le positive).1 low);
       in_sequence = rw (h.sequence_is, h.count_is) ordered;
     } in
-    header_reads s v c.metric f ∙ ap answer (header_of_stands v s c q n rest h)
+    header_reads s v c.metric f ∙ ap Ok (header_of_stands v s c q n rest h)

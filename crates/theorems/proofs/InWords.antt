@@ -1,5 +1,6 @@
 -- Demand 3 in its own words: take a snapshot we accept and a log, and cut the log before its first frame or after any frame that
 -- recovery reads without refusal.
+use Rattle.std.specs.Prelude.{Ok}
 use Prim.Native.Nat.{ℕ, ◌≤◌}
 use native.Mathlib.Omega.{arith}
 use mathlib.Core.Path.{◌≡◌, sym, ap, ◌∙◌, subst, refl}
@@ -20,7 +21,6 @@ use Rattle.theorems.specs.Compared.{compared, brief}
 use Rattle.theorems.proofs.Halves.{demand_three, demand_three_rest}
 use Rattle.theorems.proofs.CutFrames.{cut_anywhere}
 use Rattle.refusal.proofs.Results.{answer_injective}
-use Rattle.refusal.specs.Refusal.{answer}
 use Rattle.rows.specs.declared.Row.{Row}
 use Rattle.meaning.specs.Snapshot.{Snapshot, read_snapshot}
 
@@ -95,7 +95,7 @@ cut_of_accepted lent snapshot log r e =
 
 -- and every front of its frames
 pub cut_of_accepted_frames : (lent : ℕ) (snapshot log : List ℕ) (r : Recovered) → recover lent snapshot log ≡ recovered r
-    → (S : Snapshot) → read_snapshot lent snapshot ≡ answer S → (fs gs : List (Frame Row)) → (frames_of S.config log).frames ≡ fs ++ gs
+    → (S : Snapshot) → read_snapshot lent snapshot ≡ Ok S → (fs gs : List (Frame Row)) → (frames_of S.config log).frames ≡ fs ++ gs
     → (cut : Cut lent snapshot log) × (cut.front ≡ fs)
 unfolding replay
 cut_of_accepted_frames lent snapshot log r e S reads fs gs parts =

@@ -1,4 +1,5 @@
 -- A record's coordinates and caption as they stand in a snapshot or a log: they are read back, and accepted if a reader accepts the record.
+use Rattle.std.specs.Prelude.{Ok}
 use Prim.Native.Nat.{ℕ, ◌+◌, ◌*◌, ◌≤◌}
 use mathlib.Core.Path.{◌≡◌, refl, sym, ap, ◌∙◌}
 use mathlib.Core.Bool.{true}
@@ -9,7 +10,6 @@ use Rattle.utf8.specs.Utf8.{is_utf8}
 use Rattle.fields.specs.Fields.{part, num, bytes}
 use Rattle.config.specs.Limits.{max_metadata}
 use Rattle.config.specs.declared.Config.{Config}
-use Rattle.refusal.specs.Refusal.{answer}
 use Rattle.layout.specs.Layout.{caption_offset, item_length}
 use Rattle.meaning.specs.Records.{Record}
 use Rattle.meaning.specs.Item.{coordinates}
@@ -20,7 +20,7 @@ use Rattle.theorems.proofs.Here.{part_here, after_here, num_here, after_number}
 -- a reader accepts the record, whatever a deleted one has for a caption
 pub record Readable (c : Config) (r : Record) : Type 0 where
   pub shaped : Shaped c.dimensions r
-  pub vector_good : coordinates c r.vector ≡ answer tt
+  pub vector_good : coordinates c r.vector ≡ Ok tt
   pub caption_length_lem : length r.caption ≤ max_metadata
   pub caption_good : is_utf8 r.caption ≡ true
 

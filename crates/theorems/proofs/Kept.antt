@@ -1,4 +1,5 @@
 -- What each operation keeps, replay keeps: facts of each record, no ID live twice, the bounds on number.
+use Rattle.std.specs.Prelude.{Ok}
 use Prim.Native.Nat.{ℕ, suc, ◌+◌, ◌≤◌, ◌<◌}
 use native.Mathlib.Omega.{arith}
 use mathlib.Core.Bool.{Bool, true, false, cond}
@@ -7,7 +8,6 @@ use mathlib.Core.Path.{◌≡◌, refl, sym, ap, subst, ◌∙◌}
 use lib.ListN.{length, length-append}
 use lib.Dec.{leb, ltb}
 use borrow.Author.Tests.{leb-false, ltb-false}
-use Rattle.refusal.specs.Refusal.{answer}
 use Rattle.refusal.specs.declared.Refusal.TheVariants.{StorageLimits, TooFewRows}
 use Rattle.layout.specs.Layout.{snapshot_length}
 use Rattle.layout.specs.declared.Shape.{Shape}
@@ -51,7 +51,7 @@ pub data RemoveDone {A : Type 0} (K : Kind A) (shape : Shape) (id : ℕ) (rs ts 
   leaves : active K id rs ≡ false → shape ≡ Batch → ts ≡ rs → RemoveDone K shape id rs ts
 
 module _ {A : Type 0} (K : Kind A) where
-  pub put_done : (L : Bounds) (r : A) (rs ts : List A) → apply_put K L r rs ≡ answer ts → PutDone K L r rs ts
+  pub put_done : (L : Bounds) (r : A) (rs ts : List A) → apply_put K L r rs ≡ Ok ts → PutDone K L r rs ts
   unfolding apply_put
   put_done L r rs ts h =
       let s1 = went StorageLimits (leb L.max_records (length rs)) _ ts h in
@@ -64,11 +64,11 @@ module _ {A : Type 0} (K : Kind A) where
         fits = ltb-false _ _ s2.test_false;
       }
 
-  pub remove_done : (shape : Shape) (id : ℕ) (rs ts : List A) → apply_remove K shape id rs ≡ answer ts → RemoveDone K shape id rs ts
+  pub remove_done : (shape : Shape) (id : ℕ) (rs ts : List A) → apply_remove K shape id rs ≡ Ok ts → RemoveDone K shape id rs ts
   unfolding apply_remove
   remove_done shape id rs ts h = go (active K id rs) shape refl refl h
     where
-      go : (x : Bool) (y : Shape) → active K id rs ≡ x → shape ≡ y → cond x (answer (mark K id rs)) (absent y rs) ≡ answer ts
+      go : (x : Bool) (y : Shape) → active K id rs ≡ x → shape ≡ y → cond x (Ok (mark K id rs)) (absent y rs) ≡ Ok ts
           → RemoveDone K shape id rs ts
       go true y a b h = marks a (sym (answer_injective _ ts h))
       go false Batch a b h = leaves a b (sym (answer_injective _ ts h))
@@ -77,9 +77,9 @@ module _ {A : Type 0} (K : Kind A) where
   module _ (L : Bounds) (Q : Operation A → Type 0) (I : List A → Type 0) where
     -- each operation that has Q keeps I
     abbrev pub Keeps : Type 0
-    Keeps = (shape : Shape) (o : Operation A) (rs ts : List A) → Q o → apply_one K L shape o rs ≡ answer ts → I rs → I ts
+    Keeps = (shape : Shape) (o : Operation A) (rs ts : List A) → Q o → apply_one K L shape o rs ≡ Ok ts → I rs → I ts
 
-    pub apply_all_keeps : Keeps → (shape : Shape) (os : List (Operation A)) (rs ts : List A) → Every Q os → apply_all K L shape os rs ≡ answer ts → I rs → I ts
+    pub apply_all_keeps : Keeps → (shape : Shape) (os : List (Operation A)) (rs ts : List A) → Every Q os → apply_all K L shape os rs ≡ Ok ts → I rs → I ts
     unfolding apply_all
     apply_all_keeps keeps shape [] rs ts a h i = subst I (answer_injective _ ts h) i
     apply_all_keeps keeps shape (o ∷ os) rs ts a h i =

@@ -1,4 +1,5 @@
 -- What was read from a log is fit to be written: every row that a frame puts lies in the log, and its record fits a snapshot.
+use Rattle.std.specs.Prelude.{Ok}
 use Prim.Native.Nat.{ℕ, zero, suc, ◌+◌, ◌≤◌}
 use native.Mathlib.Omega.{arith}
 use mathlib.Core.Path.{◌≡◌, refl, sym, subst}
@@ -8,7 +9,6 @@ use lib.ListN.{length}
 use Rattle.fields.specs.Fields.{num, Bytes}
 use Rattle.fields.proofs.Numbers.{num_lt}
 use Rattle.config.specs.declared.Config.{Config}
-use Rattle.refusal.specs.Refusal.{answer}
 use Rattle.layout.specs.Layout.{frame_length}
 use Rattle.layout.specs.declared.Shape.{Shape}
 use Rattle.layout.specs.declared.Shape.TheVariants.{Single, Batch}
@@ -57,7 +57,7 @@ put_logged c snapshot log end at n b h i =
     record { sourced = row_sourced c snapshot log (put_row_at log at n) end n b h i (num_lt log at 8 b) refl; live = refl; from_log = refl }
 
 module _ (c : Config) (snapshot log : List ℕ) (b : Bytes log) where
-  pub operation_logged : (end tag at : ℕ) (o : ReadOperation) → end ≤ length log → operation_at c log end tag at ≡ answer o
+  pub operation_logged : (end tag at : ℕ) (o : ReadOperation) → end ≤ length log → operation_at c log end tag at ≡ Ok o
       → Puts (Logged c snapshot log) o.operation
   operation_logged end tag at o h e = go (operation_read_lem c log end tag at o e)
     where
@@ -66,7 +66,7 @@ module _ (c : Config) (snapshot log : List ℕ) (b : Bytes log) where
           subst (λ (x : ReadOperation). Puts (Logged c snapshot log) x.operation) (sym is) (put_logged c snapshot log end at n b h i)
       go (remove_here t k is) = subst (λ (x : ReadOperation). Puts (Logged c snapshot log) x.operation) (sym is) tt
 
-  pub operations_logged : (n end at : ℕ) (o : ReadOperations) → end ≤ length log → operations_at n c log end at ≡ answer o
+  pub operations_logged : (n end at : ℕ) (o : ReadOperations) → end ≤ length log → operations_at n c log end at ≡ Ok o
       → EveryPut (Logged c snapshot log) o.operations
   operations_logged zero end at o h e =
       subst (λ (x : ReadOperations). EveryPut (Logged c snapshot log) x.operations) (sym (operations_none c log end at o e)) tt
@@ -75,11 +75,11 @@ module _ (c : Config) (snapshot log : List ℕ) (b : Bytes log) where
       subst (λ (x : ReadOperations). EveryPut (Logged c snapshot log) x.operations) (sym s.all_is)
       (operation_logged end (num log at 1) (at + 1) s.this h s.this_read, operations_logged n end s.this.next s.rest h s.rest_read)
 
-  pub payload_logged : (end at : ℕ) (o : ReadOperations) → end ≤ length log → operations_read c log end at ≡ answer o
+  pub payload_logged : (end at : ℕ) (o : ReadOperations) → end ≤ length log → operations_read c log end at ≡ Ok o
       → EveryPut (Logged c snapshot log) o.operations
   payload_logged end at o h e = go (shape_of (num log (at + 8) 1)) e
     where
-      go : (x : Shape) → operations_of x c log end (num log (at + 8) 1) (at + 17) ≡ answer o → EveryPut (Logged c snapshot log) o.operations
+      go : (x : Shape) → operations_of x c log end (num log (at + 8) 1) (at + 17) ≡ Ok o → EveryPut (Logged c snapshot log) o.operations
       go Batch e = operations_logged (num log (at + 17) 4) end (at + 17 + 4) o h (batch_read c log end (at + 17) o e).operations_here
       go Single e =
           let s = single_read c log end (num log (at + 8) 1) (at + 17) o e in

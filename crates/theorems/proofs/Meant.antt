@@ -1,4 +1,5 @@
 -- What a request's words mean: the operations by value, in order; and that the encoder writes exactly these.
+use Rattle.std.specs.Prelude.{Ok}
 use Prim.Native.Nat.{ℕ, zero, suc, ◌*◌, ◌≤◌, ◌<◌, ◌^◌}
 use mathlib.Core.Path.{◌≡◌, refl, sym, ap, ap₂, ◌∙◌}
 use mathlib.Core.Bool.{Bool, true, false, cond, false≢true}
@@ -14,7 +15,7 @@ use Rattle.coordinates.specs.Coordinates.{coordinate_bytes}
 use Rattle.coordinates.proofs.Patterns.{length_coordinate_bytes, Bytes-coordinate_bytes}
 use Rattle.config.specs.Limits.{max_metadata}
 use Rattle.config.specs.declared.Config.{Config}
-use Rattle.refusal.specs.Refusal.{answer, ◌>>=◌}
+use Rattle.refusal.specs.Refusal.{◌>>=◌}
 use Rattle.meaning.specs.Replay.{Operation, put}
 use Rattle.meaning.specs.Records.{Record}
 use Rattle.meaning.specs.Encoder.{Asked, asked_from, is_put, asked_length, asked_start, put_count, Tagged, encode_put, encode_delete, encode_all}
@@ -76,7 +77,7 @@ pub record AllEncoded (c : Config) (coords captions : List ℕ) (os : List Asked
   pub loggable : Every (Loggable c) (meant c coords captions os)
 
 pub all_encoded : (c : Config) (coords captions : List ℕ) (os : List Asked) (es : List Tagged)
-    → length coords ≡ c.dimensions * put_count os → Every IdFits os → encode_all c coords captions os ≡ answer es → AllEncoded c coords captions os es
+    → length coords ≡ c.dimensions * put_count os → Every IdFits os → encode_all c coords captions os ≡ Ok es → AllEncoded c coords captions os es
 unfolding encode_all meant put_count
 all_encoded c coords captions [] es n k h = record { encoded_are = sym (answer_injective [] es h); loggable = tt }
 all_encoded c coords captions (o ∷ os) es n k h =
@@ -91,8 +92,8 @@ all_encoded c coords captions (o ∷ os) es n k h =
 
     go : (b : Bool) → length coords ≡ d * cond b (suc (put_count os)) (put_count os)
         → (cond b (encode_put c (take d coords) captions o) (encode_delete o) >>= λ this.
-        encode_all c (cond b (drop d coords) coords) captions os >>= λ rest. answer (this ∷ rest)) ≡ answer es
-        → ((coords' : List ℕ) (rest : List Tagged) → length coords' ≡ d * put_count os → encode_all c coords' captions os ≡ answer rest → AllEncoded c coords' captions os rest)
+        encode_all c (cond b (drop d coords) coords) captions os >>= λ rest. Ok (this ∷ rest)) ≡ Ok es
+        → ((coords' : List ℕ) (rest : List Tagged) → length coords' ≡ d * put_count os → encode_all c coords' captions os ≡ Ok rest → AllEncoded c coords' captions os rest)
         → (es ≡ map encoded_of (these b)) × Every (Loggable c) (these b)
     go true n h again =
         let s1 = passed (encode_put c (take d coords) captions o) _ es h in

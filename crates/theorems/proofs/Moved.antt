@@ -1,5 +1,6 @@
 -- Reading in two lists that have the same bytes, m places apart: what is read is the same, with every place m further on.
 -- So a frame depends on the bytes up to its end alone, and reads alike wherever it stands.
+use Rattle.std.specs.Prelude.{Ok, Err}
 use Prim.Native.Nat.{ℕ, zero, suc, ◌+◌, ◌*◌, ◌-◌, ◌/◌, ◌≤◌}
 use native.Mathlib.Omega.{arith}
 use mathlib.Core.Path.{◌≡◌, refl, ap, ap₂, ◌∙◌}
@@ -13,7 +14,7 @@ use Rattle.fields.specs.Fields.{part, num, le}
 use Rattle.fields.proofs.Parts.{part_append, part_after}
 use Rattle.config.specs.Limits.{max_metadata, min_frame, max_frame, max_batch_operations}
 use Rattle.config.specs.declared.Config.{Config}
-use Rattle.refusal.specs.Refusal.{Result, answer, refused}
+use Rattle.refusal.specs.Refusal.{Answer}
 use Rattle.refusal.specs.declared.Refusal.{Refusal}
 use Rattle.refusal.specs.declared.Refusal.TheVariants.{PastTheEnd, BytesLeftOver, CaptionTooLong, NotUtf8, WrongLengthCrc, WrongLength, WrongPayloadCrc, WrongSequence, WrongBatchCount}
 use Rattle.layout.specs.Layout.{frame_length}
@@ -93,7 +94,7 @@ module _ (m : ℕ) (s t : List ℕ) (room : ℕ) (q : Same m s t room) where
       let g5 : at + d + 4 + l ≤ room = omega arith in
       let ps : part s (x + d + 4) k ≡ part t (at + d + 4) l = same_part (x + d + 4) (at + d + 4) k l x5 kl g5 in
       same_refuse NotUtf8 (not (is_utf8 (part s (x + d + 4) k))) (not (is_utf8 (part t (at + d + 4) l))) _ _ (ap (λ (z : List ℕ). not (is_utf8 z)) ps) λ e6.
-      ap (λ (z : ℕ). answer z) kl
+      ap (λ (z : ℕ). Ok z) kl
 
   pub operation_moved : (c : Config) (tag y end x at : ℕ) → y ≡ m + end → x ≡ m + at → end ≤ room
       → operation_at c s y tag x ≡ on_answer (later_read_operation m) (operation_at c t end tag at)
@@ -108,19 +109,19 @@ module _ (m : ℕ) (s t : List ℕ) (room : ℕ) (q : Same m s t room) where
       (carried_bind (later_read_operation m) (λ (n : ℕ). n) (item_at PastTheEnd c s y (x + 8)) (item_at PastTheEnd c t end (at + 8)) _ _
       (item_moved PastTheEnd c y end (x + 8) (at + 8) ey x8 h ∙ plain (item_at PastTheEnd c t end (at + 8)))
       (λ n e2. let xn : x + 12 + 4 * c.dimensions + n ≡ m + (at + 12 + 4 * c.dimensions + n) = omega arith in
-      λ i. answer (record { operation = put (record { id = record { 0 = ids i }; deleted = false; from_log = true; caption_length = n; at = x8 i }); next = xn i })))
+      λ i. Ok (record { operation = put (record { id = record { 0 = ids i }; deleted = false; from_log = true; caption_length = n; at = x8 i }); next = xn i })))
       (carried_cond (later_read_operation m) (eqb tag 2) (eqb tag 2) _ _ _ _ refl
-      (λ i. answer (record { operation = remove (ids i); next = x8 i }))
+      (λ i. Ok (record { operation = remove (ids i); next = x8 i }))
       refl)
     where
-      plain : (r : Result ℕ) → r ≡ on_answer (λ (n : ℕ). n) r
-      plain (answer a) = refl
-      plain (refused why) = refl
+      plain : (r : Answer ℕ) → r ≡ on_answer (λ (n : ℕ). n) r
+      plain (Ok a) = refl
+      plain (Err why) = refl
 
   pub operations_moved : (k : ℕ) (c : Config) (y end x at : ℕ) → y ≡ m + end → x ≡ m + at → end ≤ room
       → operations_at k c s y x ≡ on_answer (later_read_operations m) (operations_at k c t end at)
   unfolding operations_at
-  operations_moved zero c y end x at ey ex h = λ i. answer (record { operations = []; next = ex i })
+  operations_moved zero c y end x at ey ex h = λ i. Ok (record { operations = []; next = ex i })
   operations_moved (suc k) c y end x at ey ex h =
       carried_refuse (later_read_operations m) PastTheEnd (ltb y (x + 1)) (ltb end (at + 1)) _ _ (same_less y (x + 1) end (at + 1) (omega arith) (omega arith)) λ e1.
       let h1 = ltb-false end (at + 1) e1 in
@@ -188,7 +189,7 @@ module _ (m : ℕ) (s t : List ℕ) (room : ℕ) (q : Same m s t room) where
       ∙ shape_moved (shape_of (num t (at + 8) 1)) c (num t (at + 8) 1) (x + 8 + n) (at + 8 + n) (x + 17) (at + 17) xn x17 gn g17) λ ops e3.
       carried_refuse (later_frame m) BytesLeftOver (not (eqb (m + ops.next) (x + 8 + n))) (not (eqb ops.next (at + 8 + n))) _ _
       (ap not (same_equal (m + ops.next) (x + 8 + n) ops.next (at + 8 + n) (omega arith) (omega arith))) λ e4.
-      λ i. answer (record { start = ex i; sequence = sequences i; shape = shape_of (codes i); operations = map (later_operation m) ops.operations })
+      λ i. Ok (record { start = ex i; sequence = sequences i; shape = shape_of (codes i); operations = map (later_operation m) ops.operations })
 
   pub length_moved : (x at : ℕ) → x ≡ m + at → at + 8 ≤ room → length_at s x ≡ length_at t at
   unfolding length_at
@@ -203,4 +204,4 @@ module _ (m : ℕ) (s t : List ℕ) (room : ℕ) (q : Same m s t room) where
       (ap₂ (λ (a : List ℕ) (b : ℕ). not (eqb (crc_of a) b)) (same_part x at 4 4 ex refl g4) (same_num (x + 4) (at + 4) 4 x4 g8)) λ e1.
       same_refuse WrongLength (ltb k min_frame) (ltb l min_frame) _ _ (ap (λ (z : ℕ). ltb z min_frame) kl) λ e2.
       same_refuse WrongLength (ltb max_frame k) (ltb max_frame l) _ _ (ap (ltb max_frame) kl) λ e3.
-      ap (λ (z : ℕ). answer z) kl
+      ap (λ (z : ℕ). Ok z) kl

@@ -1,4 +1,5 @@
 -- One frame of a log: its bounds; that it is read from its own bytes alone, wherever they stand; and the frame before it.
+use Rattle.std.specs.Prelude.{Ok, Err}
 use Prim.Native.Nat.{ℕ, ◌+◌, ◌-◌, ◌≤◌}
 use native.Mathlib.Omega.{arith}
 use mathlib.Core.Path.{◌≡◌, refl, sym, ap, ap₂, subst, ◌∙◌}
@@ -11,7 +12,7 @@ use Rattle.fields.specs.Fields.{part, num}
 use Rattle.fields.proofs.Numbers.{num_append}
 use Rattle.config.specs.Limits.{min_frame, max_frame}
 use Rattle.config.specs.declared.Config.{Config}
-use Rattle.refusal.specs.Refusal.{Result, answer, refused}
+use Rattle.refusal.specs.Refusal.{Answer}
 use Rattle.refusal.specs.declared.Refusal.TheVariants.{WrongPayloadCrc, WrongSequence}
 use Rattle.layout.specs.Layout.{frame_length}
 use Rattle.meaning.specs.Replay.{Operation, put, remove, Frame}
@@ -39,9 +40,9 @@ later_none f =
     all [] = refl
     all (o ∷ os) = ap₂ ◌∷◌ (one o) (all os)
 
-on_answer_none : (r : Result (Frame Row)) → on_answer (later_frame 0) r ≡ r
-on_answer_none (answer f) = ap (λ (x : Frame Row). answer x) (later_none f)
-on_answer_none (refused why) = refl
+on_answer_none : (r : Answer (Frame Row)) → on_answer (later_frame 0) r ≡ r
+on_answer_none (Ok f) = ap (λ (x : Frame Row). Ok x) (later_none f)
+on_answer_none (Err why) = refl
 
 payload_front : (c : Config) (a b : List ℕ) (previous at n : ℕ) → 17 ≤ n → at + frame_length n ≤ length a
     → payload_at c (a ++ b) previous at n ≡ payload_at c a previous at n
@@ -65,7 +66,7 @@ frame_front c a b previous at f next e =
     let same : num (a ++ b) at 4 ≡ n = num_append a b at 4 g4 in
     let sum = length-append a b in
     frame_reads c (a ++ b) previous at f next (record {
-      length_answers = length_at_front a b at g8 ∙ here.length_answers ∙ ap (λ (x : ℕ). answer x) (sym same);
+      length_answers = length_at_front a b at g8 ∙ here.length_answers ∙ ap (λ (x : ℕ). Ok x) (sym same);
       least = subst (λ (x : ℕ). min_frame ≤ x) (sym same) here.least;
       most = subst (λ (x : ℕ). x ≤ max_frame) (sym same) here.most;
       inside = omega arith;
@@ -86,7 +87,7 @@ frame_back c a b previous at f next e h =
     let g4 : at + 4 ≤ length a = omega arith in
     let same : n ≡ num a at 4 = num_append a b at 4 g4 in
     frame_reads c a previous at f next (record {
-      length_answers = sym (length_at_front a b at g8) ∙ here.length_answers ∙ ap (λ (x : ℕ). answer x) same;
+      length_answers = sym (length_at_front a b at g8) ∙ here.length_answers ∙ ap (λ (x : ℕ). Ok x) same;
       least = subst (λ (x : ℕ). min_frame ≤ x) same here.least;
       most = subst (λ (x : ℕ). x ≤ max_frame) same here.most;
       inside = omega arith;
@@ -108,12 +109,12 @@ frame_shifted c front rest previous at =
     s : List ℕ
     s = front ++ rest
 
-    three : (n : ℕ) → length_at rest at ≡ answer n → frame_length n ≤ length rest - at → (x y : Result (Frame Row)) → x ≡ on_answer (later_frame m) y
+    three : (n : ℕ) → length_at rest at ≡ Ok n → frame_length n ≤ length rest - at → (x y : Answer (Frame Row)) → x ≡ on_answer (later_frame m) y
         → frame_read (m + at + frame_length n) x ≡ later_found m (frame_read (at + frame_length n) y)
-    three n l h x (answer f) e = ap (frame_read (m + at + frame_length n)) e ∙ ap (found (later_frame m f)) (omega arith)
-    three n l h x (refused why) e = ap (frame_read (m + at + frame_length n)) e
+    three n l h x (Ok f) e = ap (frame_read (m + at + frame_length n)) e ∙ ap (found (later_frame m f)) (omega arith)
+    three n l h x (Err why) e = ap (frame_read (m + at + frame_length n)) e
 
-    two : (n : ℕ) → length_at rest at ≡ answer n → (x y : Bool) → ltb (length rest - at) (frame_length n) ≡ y → x ≡ y
+    two : (n : ℕ) → length_at rest at ≡ Ok n → (x y : Bool) → ltb (length rest - at) (frame_length n) ≡ y → x ≡ y
         → cond x too_little (frame_read (m + at + frame_length n) (payload_at c s previous (m + at) n))
         ≡ later_found m (cond y too_little (frame_read (at + frame_length n) (payload_at c rest previous at n)))
     two n l x true t e = ap (λ (b : Bool). cond b too_little (frame_read (m + at + frame_length n) (payload_at c s previous (m + at) n))) e
@@ -127,9 +128,9 @@ frame_shifted c front rest previous at =
         ∙ three n l h (payload_at c s previous (m + at) n) (payload_at c rest previous at n)
         (payload_moved m s rest (length rest) (same_after front rest (length rest)) c previous n (m + at) at refl few g)
 
-    with_length_lem : (x y : Result ℕ) → length_at rest at ≡ y → x ≡ y → with_length c s previous (m + at) x ≡ later_found m (with_length c rest previous at y)
-    with_length_lem x (refused why) l e = ap (with_length c s previous (m + at)) e
-    with_length_lem x (answer n) l e =
+    with_length_lem : (x y : Answer ℕ) → length_at rest at ≡ y → x ≡ y → with_length c s previous (m + at) x ≡ later_found m (with_length c rest previous at y)
+    with_length_lem x (Err why) l e = ap (with_length c s previous (m + at)) e
+    with_length_lem x (Ok n) l e =
         ap (with_length c s previous (m + at)) e
         ∙ two n l (ltb (length s - (m + at)) (frame_length n)) (ltb (length rest - at) (frame_length n)) refl
         (same_less (length s - (m + at)) (frame_length n) (length rest - at) (frame_length n) (omega (arith, length-append front rest)) (omega (arith, length-append front rest)))
@@ -145,7 +146,7 @@ frame_shifted c front rest previous at =
 
 -- ---- the frame before
 payload_anew : (c : Config) (log : List ℕ) (previous at n : ℕ) (f : Frame Row)
-    → payload_at c log previous at n ≡ answer f → payload_at c log 0 at n ≡ answer f
+    → payload_at c log previous at n ≡ Ok f → payload_at c log 0 at n ≡ Ok f
 unfolding payload_at
 payload_anew c log previous at n f e =
     let crc = not (eqb (crc_of (part log (at + 8) n)) (num log (at + 8 + n) 4)) in
@@ -165,18 +166,18 @@ pub frame_anew : (c : Config) (log : List ℕ) (previous at : ℕ)
 unfolding frame_at
 frame_anew c log previous at = one (ltb (length log - at) 8) (length_at log at)
   where
-    three : (n : ℕ) (r : Result (Frame Row)) → payload_at c log previous at n ≡ r → (IsWrong (frame_read (at + frame_length n) r) → ⊥)
+    three : (n : ℕ) (r : Answer (Frame Row)) → payload_at c log previous at n ≡ r → (IsWrong (frame_read (at + frame_length n) r) → ⊥)
         → frame_read (at + frame_length n) (payload_at c log 0 at n) ≡ frame_read (at + frame_length n) r
-    three n (answer f) p h = ap (frame_read (at + frame_length n)) (payload_anew c log previous at n f p)
-    three n (refused why) p h = absurd (h tt)
+    three n (Ok f) p h = ap (frame_read (at + frame_length n)) (payload_anew c log previous at n f p)
+    three n (Err why) p h = absurd (h tt)
 
     two : (n : ℕ) (b : Bool) → (IsWrong (cond b too_little (frame_read (at + frame_length n) (payload_at c log previous at n))) → ⊥)
         → cond b too_little (frame_read (at + frame_length n) (payload_at c log 0 at n)) ≡ cond b too_little (frame_read (at + frame_length n) (payload_at c log previous at n))
     two n true h = refl
     two n false h = three n (payload_at c log previous at n) refl h
 
-    one : (b : Bool) (r : Result ℕ) → (IsWrong (cond b too_little (with_length c log previous at r)) → ⊥)
+    one : (b : Bool) (r : Answer ℕ) → (IsWrong (cond b too_little (with_length c log previous at r)) → ⊥)
         → cond b too_little (with_length c log 0 at r) ≡ cond b too_little (with_length c log previous at r)
     one true r h = refl
-    one false (refused why) h = absurd (h tt)
-    one false (answer n) h = two n (ltb (length log - at) (frame_length n)) h
+    one false (Err why) h = absurd (h tt)
+    one false (Ok n) h = two n (ltb (length log - at) (frame_length n)) h

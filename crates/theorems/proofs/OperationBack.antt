@@ -1,4 +1,5 @@
 -- Operations by value as they stand in a payload: each is read back, and its row shows the record that was put.
+use Rattle.std.specs.Prelude.{Ok}
 use Prim.Native.Nat.{ℕ, ◌+◌, ◌*◌, ◌≤◌, ◌<◌, ◌^◌}
 use mathlib.Core.Path.{◌≡◌, refl, sym, ap, ap₂, ◌∙◌}
 use mathlib.Core.Bool.{true, false}
@@ -9,7 +10,6 @@ use lib.Seq.{drop-drop}
 use Rattle.fields.specs.Fields.{num, le, bytes}
 use Rattle.fields.proofs.Numbers.{length_bytes}
 use Rattle.config.specs.declared.Config.{Config}
-use Rattle.refusal.specs.Refusal.{answer}
 use Rattle.meaning.specs.Replay.{Operation, put, remove}
 use Rattle.meaning.specs.Records.{Record, seen}
 use Rattle.meaning.specs.Log.{operation_at, operations_at}
@@ -63,7 +63,7 @@ put_stands d s at r rest h k =
 -- an operation that a reader accepts is read where it stands
 pub operation_back : (c : Config) (log : List ℕ) (end at : ℕ) (o : Operation Record) (rest : List ℕ)
     → drop at log ≡ fields_of o ++ rest → at + length (fields_of o) ≤ end → Loggable c o
-    → operation_at c log end (tag_of o) at ≡ answer (record { operation = logged_at at o; next = at + length (fields_of o) })
+    → operation_at c log end (tag_of o) at ≡ Ok (record { operation = logged_at at o; next = at + length (fields_of o) })
 operation_back c log end at (put r) rest h room k =
     let d = c.dimensions in
     let n = length r.caption in
@@ -133,11 +133,11 @@ next_stands log at o os rest h =
 
 pub operations_back : (c : Config) (log : List ℕ) (end at : ℕ) (os : List (Operation Record)) (rest : List ℕ)
     → drop at log ≡ tagged os ++ rest → at + length (tagged os) ≤ end → Every (Loggable c) os
-    → operations_at (length os) c log end at ≡ answer (record { operations = logged_from at os; next = at + length (tagged os) })
+    → operations_at (length os) c log end at ≡ Ok (record { operations = logged_from at os; next = at + length (tagged os) })
 unfolding logged_from tagged_bytes
 operations_back c log end at [] rest h room k =
     let e : at ≡ at + 0 = omega arith in
-    operations_reads_none c log end at ∙ ap (λ (x : ℕ). answer (record { operations = []; next = x })) e
+    operations_reads_none c log end at ∙ ap (λ (x : ℕ). Ok (record { operations = []; next = x })) e
 operations_back c log end at (o ∷ os) rest h room k =
     let p = next_stands log at o os rest h in
     let l = length_tagged_cons o os in

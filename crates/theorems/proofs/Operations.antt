@@ -1,4 +1,5 @@
 -- What makes a log's readers answer: the converses of what an answer says of operations, a payload, a length.
+use Rattle.std.specs.Prelude.{Ok, Err}
 use Prim.Native.Nat.{ℕ, zero, suc, ◌+◌, ◌-◌, ◌/◌, ◌≤◌}
 use mathlib.Core.Path.{◌≡◌, refl, sym, ap, ◌∙◌}
 use mathlib.Core.Bool.{Bool, true, false, cond, not}
@@ -7,7 +8,7 @@ use lib.Dec.{ltb, eqb}
 use Rattle.fields.specs.Fields.{num, part}
 use Rattle.config.specs.Limits.{max_batch_operations, min_frame, max_frame}
 use Rattle.config.specs.declared.Config.{Config}
-use Rattle.refusal.specs.Refusal.{Result, answer, refused, ◌>>=◌}
+use Rattle.refusal.specs.Refusal.{Answer, ◌>>=◌}
 use Rattle.refusal.specs.declared.Refusal.TheVariants.{PastTheEnd, WrongBatchCount, UnknownOperation, BytesLeftOver, WrongLengthCrc, WrongLength, WrongPayloadCrc, WrongSequence}
 use Rattle.meaning.specs.Replay.{remove, Frame}
 use Rattle.meaning.specs.Item.{item_at}
@@ -22,49 +23,49 @@ use Rattle.crc32.specs.Crc.{crc_of}
 use Rattle.rows.specs.declared.Row.{Row}
 
 pub operation_reads : (c : Config) (log : List ℕ) (end tag at : ℕ) (o : ReadOperation)
-    → OperationHere c log end tag at o → operation_at c log end tag at ≡ answer o
+    → OperationHere c log end tag at o → operation_at c log end tag at ≡ Ok o
 unfolding operation_at
 operation_reads c log end tag at o (put_here n t h i is) =
     pass PastTheEnd (ltb end (at + 8)) _ (le-ltb end (at + 8) h)
     ∙ ap (λ (b : Bool). cond b a_put an_other) (eq-eqb tag 1 t)
     ∙ go_on (item_at PastTheEnd c log end (at + 8)) _ n (item_reads PastTheEnd c log end (at + 8) n i)
-    ∙ ap answer (sym is)
+    ∙ ap Ok (sym is)
   where
-    a_put : Result ReadOperation
-    a_put = item_at PastTheEnd c log end (at + 8) >>= λ n. answer (put_row c log at n)
+    a_put : Answer ReadOperation
+    a_put = item_at PastTheEnd c log end (at + 8) >>= λ n. Ok (put_row c log at n)
 
-    an_other : Result ReadOperation
-    an_other = cond (eqb tag 2) (answer (record { operation = remove (num log at 8); next = at + 8 })) (refused UnknownOperation)
+    an_other : Answer ReadOperation
+    an_other = cond (eqb tag 2) (Ok (record { operation = remove (num log at 8); next = at + 8 })) (Err UnknownOperation)
 operation_reads c log end tag at o (remove_here t h is) =
     let no : eqb tag 1 ≡ false = ap (λ (x : ℕ). eqb x 1) t in
     pass PastTheEnd (ltb end (at + 8)) _ (le-ltb end (at + 8) h)
     ∙ ap (λ (b : Bool). cond b a_put an_other) no
-    ∙ ap (λ (b : Bool). cond b (answer a_remove) (refused UnknownOperation)) (eq-eqb tag 2 t)
-    ∙ ap answer (sym is)
+    ∙ ap (λ (b : Bool). cond b (Ok a_remove) (Err UnknownOperation)) (eq-eqb tag 2 t)
+    ∙ ap Ok (sym is)
   where
     a_remove : ReadOperation
     a_remove = record { operation = remove (num log at 8); next = at + 8 }
 
-    a_put : Result ReadOperation
-    a_put = item_at PastTheEnd c log end (at + 8) >>= λ n. answer (put_row c log at n)
+    a_put : Answer ReadOperation
+    a_put = item_at PastTheEnd c log end (at + 8) >>= λ n. Ok (put_row c log at n)
 
-    an_other : Result ReadOperation
-    an_other = cond (eqb tag 2) (answer a_remove) (refused UnknownOperation)
+    an_other : Answer ReadOperation
+    an_other = cond (eqb tag 2) (Ok a_remove) (Err UnknownOperation)
 
-pub operations_reads_none : (c : Config) (log : List ℕ) (end at : ℕ) → operations_at zero c log end at ≡ answer (record { operations = []; next = at })
+pub operations_reads_none : (c : Config) (log : List ℕ) (end at : ℕ) → operations_at zero c log end at ≡ Ok (record { operations = []; next = at })
 unfolding operations_at
 operations_reads_none c log end at = refl
 
 pub operations_reads : (n : ℕ) (c : Config) (log : List ℕ) (end at : ℕ) (o : ReadOperations)
-    → OperationsHere n c log end at o → operations_at (suc n) c log end at ≡ answer o
+    → OperationsHere n c log end at o → operations_at (suc n) c log end at ≡ Ok o
 unfolding operations_at
 operations_reads n c log end at o here =
     pass PastTheEnd (ltb end (at + 1)) _ (le-ltb end (at + 1) here.tag_inside)
     ∙ go_on (operation_at c log end (num log at 1) (at + 1)) _ here.this here.this_read
     ∙ go_on (operations_at n c log end here.this.next) _ here.rest here.rest_read
-    ∙ ap answer (sym here.all_is)
+    ∙ ap Ok (sym here.all_is)
 
-pub batch_reads : (c : Config) (log : List ℕ) (end at : ℕ) (o : ReadOperations) → BatchHere c log end at o → batch_at c log end at ≡ answer o
+pub batch_reads : (c : Config) (log : List ℕ) (end at : ℕ) (o : ReadOperations) → BatchHere c log end at o → batch_at c log end at ≡ Ok o
 unfolding batch_at
 batch_reads c log end at o here =
     let k = num log at 4 in
@@ -74,10 +75,10 @@ batch_reads c log end at o here =
     ∙ here.operations_here
 
 pub single_reads : (c : Config) (log : List ℕ) (end opcode at : ℕ) (o : ReadOperations)
-    → SingleHere c log end opcode at o → single_at c log end opcode at ≡ answer o
+    → SingleHere c log end opcode at o → single_at c log end opcode at ≡ Ok o
 unfolding single_at
 single_reads c log end opcode at o here =
-    go_on (operation_at c log end opcode at) _ here.this here.this_read ∙ ap answer (sym here.all_is)
+    go_on (operation_at c log end opcode at) _ here.this here.this_read ∙ ap Ok (sym here.all_is)
 
 pub order_reads : (previous sequence : ℕ) → InOrder previous sequence → out_of_order previous sequence ≡ false
 order_reads previous sequence order = go (eqb previous 0) refl (eqb sequence 0) refl
@@ -90,7 +91,7 @@ order_reads previous sequence order = go (eqb previous 0) refl (eqb sequence 0) 
         ap not (eq-eqb sequence (previous + 1) (order.one_more (omega arith)))
 
 pub payload_reads : (c : Config) (log : List ℕ) (previous at n : ℕ) (f : Frame Row)
-    → PayloadHere c log previous at n f → payload_at c log previous at n ≡ answer f
+    → PayloadHere c log previous at n f → payload_at c log previous at n ≡ Ok f
 unfolding payload_at
 payload_reads c log previous at n f here =
     let crc = crc_of (part log (at + 8) n) in
@@ -102,9 +103,9 @@ payload_reads c log previous at n f here =
     ∙ pass WrongSequence (out_of_order previous (num log (at + 9) 8)) _ here.in_order
     ∙ go_on (operations_read c log end at) _ (record { operations = f.operations; next = end }) here.operations_read_lem
     ∙ pass BytesLeftOver (not (eqb end end)) _ (ap not (eq-eqb end end refl))
-    ∙ (λ i. answer (record { start = sym start_is i; sequence = sym sequence_is i; shape = sym shape_is i; operations = f.operations }))
+    ∙ (λ i. Ok (record { start = sym start_is i; sequence = sym sequence_is i; shape = sym shape_is i; operations = f.operations }))
 
-pub length_reads : (log : List ℕ) (at n : ℕ) → LengthHere log at n → length_at log at ≡ answer n
+pub length_reads : (log : List ℕ) (at n : ℕ) → LengthHere log at n → length_at log at ≡ Ok n
 unfolding length_at
 length_reads log at n here =
     let crc = crc_of (part log at 4) in
@@ -117,4 +118,4 @@ length_reads log at n here =
     pass WrongLengthCrc (not (eqb crc (num log (at + 4) 4))) _ (ap not (eq-eqb crc (num log (at + 4) 4) here.crc_good))
     ∙ pass WrongLength (ltb k min_frame) _ (le-ltb k min_frame low)
     ∙ pass WrongLength (ltb max_frame k) _ (le-ltb max_frame k high)
-    ∙ ap (λ (x : ℕ). answer x) (sym is)
+    ∙ ap (λ (x : ℕ). Ok x) (sym is)

@@ -1,4 +1,5 @@
 -- Every statement of `specs/`, proved.
+use Rattle.std.specs.Prelude.{Ok}
 use Rattle.theorems.specs.Theorems.{Theorems}
 use Rattle.theorems.specs.FrameReadBack.{FrameOf}
 use Rattle.theorems.specs.Requested.{requested}
@@ -7,7 +8,6 @@ use mathlib.Core.Path.{◌≡◌}
 use mathlib.Core.List.{List}
 use Rattle.config.specs.declared.Config.{Config}
 use Rattle.layout.specs.declared.Shape.{Shape}
-use Rattle.refusal.specs.Refusal.{answer}
 use Rattle.meaning.specs.Every.{Every}
 use Rattle.meaning.specs.Encoder.{encode}
 use Rattle.theorems.proofs.InWords as InWords
@@ -31,7 +31,7 @@ use Rattle.theorems.proofs.SumsComputed as SumsComputed
 use Rattle.theorems.proofs.StandardsMet as StandardsMet
 
 pub frame_of_lem : (shape : Shape) (c : Config) (sequence : ℕ) (words coords captions : List ℕ) (room : ℕ) (bs : List ℕ)
-    → Every (λ x. x < 2 ^ 64) words → sequence < 256 ^ 8 → encode shape c sequence words coords captions room ≡ answer bs
+    → Every (λ x. x < 2 ^ 64) words → sequence < 256 ^ 8 → encode shape c sequence words coords captions room ≡ Ok bs
     → FrameOf shape c sequence (requested c words coords captions) bs
 frame_of_lem shape c sequence words coords captions room bs w q e =
     record {

@@ -1,4 +1,5 @@
 -- What it takes for a run over frames to reach a state: each frame in order was skipped or replayed. Every other law goes by this.
+use Rattle.std.specs.Prelude.{Ok, Err}
 use Prim.Native.Nat.{ℕ, suc, ◌+◌, ◌≤◌, ◌<◌}
 use mathlib.Core.Bool.{Bool, true, false, not, cond}
 use mathlib.Core.List.{List, [], ◌∷◌, ◌++◌}
@@ -7,7 +8,7 @@ use native.Mathlib.Omega.{arith}
 use lib.ListN.{length}
 use lib.Dec.{leb, eqb}
 use borrow.Author.Tests.{leb-true, leb-false, eqb-true, not-false}
-use Rattle.refusal.specs.Refusal.{Result, answer, refused}
+use Rattle.refusal.specs.Refusal.{Answer}
 use Rattle.refusal.specs.declared.Refusal.{Refusal}
 use Rattle.refusal.specs.declared.Refusal.TheVariants.{GapAfterSnapshot}
 use Rattle.meaning.specs.Replay.{Kind, Frame, End, tail, State, Outcome, reached, stopped, Bounds, apply_all, skip, play, replay_frame, step, run, onward}
@@ -30,15 +31,15 @@ stopped≢reached e = subst IsReached (sym e) tt
 -- what one frame did
 pub data Did {A : Type 0} (K : Kind A) (L : Bounds) (q : ℕ) (f : Frame A) (s t : State A) : Type 0 where
   skips : f.sequence ≤ q → t ≡ skip s → Did K L q f s t
-  plays : (rs : List A) → q < f.sequence → f.sequence ≡ s.sequence + 1 → apply_all K L f.shape f.operations s.records ≡ answer rs
+  plays : (rs : List A) → q < f.sequence → f.sequence ≡ s.sequence + 1 → apply_all K L f.shape f.operations s.records ≡ Ok rs
       → t ≡ play f s rs → Did K L q f s t
 
 module _ {A : Type 0} (K : Kind A) (L : Bounds) (q : ℕ) where
-  pub did : (f : Frame A) (s t : State A) → step K L q f s ≡ answer t → Did K L q f s t
+  pub did : (f : Frame A) (s t : State A) → step K L q f s ≡ Ok t → Did K L q f s t
   unfolding step replay_frame
   did f s t e = go (leb f.sequence q) refl e
     where
-      go : (x : Bool) → leb f.sequence q ≡ x → cond x (answer (skip s)) (replay_frame K L f s) ≡ answer t → Did K L q f s t
+      go : (x : Bool) → leb f.sequence q ≡ x → cond x (Ok (skip s)) (replay_frame K L f s) ≡ Ok t → Did K L q f s t
       go true h d = skips (leb-true _ _ h) (sym (answer_injective (skip s) t d))
       go false h d =
           let s1 = went GapAfterSnapshot (not (eqb f.sequence (s.sequence + 1))) _ t d in
@@ -51,31 +52,31 @@ module _ {A : Type 0} (K : Kind A) (L : Bounds) (q : ℕ) where
   ran [] s t k to e = reached_inj e
   ran (f ∷ fs) s t k to e = go (step K L q f s) refl e (λ m. ran fs m t k to)
     where
-      go : (x : Result (State A)) → step K L q f s ≡ x → onward f.start x (run K L q fs (tail k)) ≡ reached t to
+      go : (x : Answer (State A)) → step K L q f s ≡ x → onward f.start x (run K L q fs (tail k)) ≡ reached t to
           → ((m : State A) → run K L q fs (tail k) m ≡ reached t to → Ran K L q fs m t) → Ran K L q (f ∷ fs) s t
-      go (answer m) h d rest = (m, h, rest m d)
-      go (refused why) h d rest = absurd (stopped≢reached d)
+      go (Ok m) h d rest = (m, h, rest m d)
+      go (Err why) h d rest = absurd (stopped≢reached d)
 
   pub ran_at : (fs : List (Frame A)) (s t : State A) (k to : ℕ) → run K L q fs (tail k) s ≡ reached t to → k ≡ to
   unfolding run
   ran_at [] s t k to e = reached_at e
   ran_at (f ∷ fs) s t k to e = go (step K L q f s) e (λ m. ran_at fs m t k to)
     where
-      go : (x : Result (State A)) → onward f.start x (run K L q fs (tail k)) ≡ reached t to
+      go : (x : Answer (State A)) → onward f.start x (run K L q fs (tail k)) ≡ reached t to
           → ((m : State A) → run K L q fs (tail k) m ≡ reached t to → k ≡ to) → k ≡ to
-      go (answer m) d rest = rest m d
-      go (refused why) d rest = absurd (stopped≢reached d)
+      go (Ok m) d rest = rest m d
+      go (Err why) d rest = absurd (stopped≢reached d)
 
   -- frames that were run go on into any others
   pub ran_on : (fs gs : List (Frame A)) (e : End) (s t : State A) → Ran K L q fs s t → run K L q (fs ++ gs) e s ≡ run K L q gs e t
   unfolding run
   ran_on [] gs e s t r = ap (run K L q gs e) r
-  ran_on (f ∷ fs) gs e s t r = ap (λ (x : Result (State A)). onward f.start x (run K L q (fs ++ gs) e)) r.1 ∙ ran_on fs gs e r.0 t r.2
+  ran_on (f ∷ fs) gs e s t r = ap (λ (x : Answer (State A)). onward f.start x (run K L q (fs ++ gs) e)) r.1 ∙ ran_on fs gs e r.0 t r.2
 
   pub ran_reaches : (fs : List (Frame A)) (k : ℕ) (s t : State A) → Ran K L q fs s t → run K L q fs (tail k) s ≡ reached t k
   unfolding run
   ran_reaches [] k s t r = ap (λ (x : State A). reached x k) r
-  ran_reaches (f ∷ fs) k s t r = ap (λ (x : Result (State A)). onward f.start x (run K L q fs (tail k))) r.1 ∙ ran_reaches fs k r.0 t r.2
+  ran_reaches (f ∷ fs) k s t r = ap (λ (x : Answer (State A)). onward f.start x (run K L q fs (tail k))) r.1 ∙ ran_reaches fs k r.0 t r.2
 
   -- a refusal among the first frames stands, whatever follows them
   pub run_stopped : (fs gs : List (Frame A)) (e : End) (k : ℕ) (s : State A) (why : Refusal) (at : ℕ)
@@ -84,11 +85,11 @@ module _ {A : Type 0} (K : Kind A) (L : Bounds) (q : ℕ) where
   run_stopped [] gs e k s why at h = absurd (stopped≢reached (sym h))
   run_stopped (f ∷ fs) gs e k s why at h = go (step K L q f s) h (λ t. run_stopped fs gs e k t why at)
     where
-      go : (x : Result (State A)) → onward f.start x (run K L q fs (tail k)) ≡ stopped why at
+      go : (x : Answer (State A)) → onward f.start x (run K L q fs (tail k)) ≡ stopped why at
           → ((t : State A) → run K L q fs (tail k) t ≡ stopped why at → run K L q (fs ++ gs) e t ≡ stopped why at)
           → onward f.start x (run K L q (fs ++ gs) e) ≡ stopped why at
-      go (answer t) h rest = rest t h
-      go (refused why') h rest = h
+      go (Ok t) h rest = rest t h
+      go (Err why') h rest = h
 
   -- every frame is counted once, as replayed or as skipped
   pub ran_count : (fs : List (Frame A)) (s t : State A) → Ran K L q fs s t → t.replayed + t.skipped ≡ length fs + (s.replayed + s.skipped)

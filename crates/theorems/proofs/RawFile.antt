@@ -1,4 +1,5 @@
 -- Every accepted snapshot is a file of its settings, its sequence and the records that stand in it, of version 1 or 2.
+use Rattle.std.specs.Prelude.{Ok}
 use Prim.Native.Nat.{ℕ, zero, suc, ◌+◌, ◌*◌, ◌-◌, ◌≤◌}
 use mathlib.Core.Path.{◌≡◌, refl, sym, ap, ap₂, subst, ◌∙◌}
 use mathlib.Core.List.{List, [], ◌∷◌, ◌++◌, map}
@@ -13,7 +14,6 @@ use Rattle.fields.proofs.Numbers.{num_lt, bytes_num}
 use Rattle.config.specs.declared.Config.{Config}
 use Rattle.config.specs.declared.Metric.{Metric}
 use Rattle.config.specs.declared.Metric.TheVariants.{SquaredL2}
-use Rattle.refusal.specs.Refusal.{answer}
 use Rattle.meaning.specs.Records.{Record, seen}
 use Rattle.rows.specs.declared.Row.{Row}
 use Rattle.layout.specs.Layout.{caption_offset, record_length, magic, metric_length, header_length}
@@ -126,7 +126,7 @@ raws_cons c s end b h n at y next r f =
     }
 
 pub raws_facts : (c : Config) (s : List ℕ) (end : ℕ) → Bytes s → end ≤ length s → (n at : ℕ) (x : ReadRows)
-    → records_at n c s end at ≡ answer x → RawsFacts c s n at x.next
+    → records_at n c s end at ≡ Ok x → RawsFacts c s n at x.next
 unfolding records_at raws_from records_bytes
 raws_facts c s end b h zero at x e =
     let next_is = ap (λ (y : ReadRows). y.next) (answer_injective _ x e) in
@@ -140,11 +140,11 @@ raws_facts c s end b h (suc n) at x e =
     subst (RawsFacts c s (suc n) at) next_is (raws_cons c s end b h n at s1.value s2.value.next r f)
 
 -- ---- the header
-tells : (v : Version) (s : List ℕ) (metric : Metric) → header_metric v s ≡ answer metric → Tells v metric
+tells : (v : Version) (s : List ℕ) (metric : Metric) → header_metric v s ≡ Ok metric → Tells v metric
 tells One s metric e = sym (answer_injective SquaredL2 metric e)
 tells Two s metric e = tt
 
-metric_raw : (v : Version) (s : List ℕ) (metric : Metric) → Bytes s → 52 ≤ length s → header_metric v s ≡ answer metric → metric_bytes v metric ≡ part s 24 (metric_length v)
+metric_raw : (v : Version) (s : List ℕ) (metric : Metric) → Bytes s → 52 ≤ length s → header_metric v s ≡ Ok metric → metric_bytes v metric ≡ part s 24 (metric_length v)
 metric_raw One s metric b h e = refl
 metric_raw Two s metric b h e =
     ap (bytes 4) (sym (number_of_read (num s 24 4) metric e)) ∙ bytes_num s 24 4 b (omega arith)
@@ -176,7 +176,7 @@ header_raw s v metric b f =
 -- ---- the file
 pub record RawFile (s : List ℕ) (x : Snapshot) : Type 0 where
   pub version : Version
-  pub version_is : version_of (num s 8 4) ≡ answer version
+  pub version_is : version_of (num s 8 4) ≡ Ok version
   pub records : List Record
   pub is : s ≡ file_with version x.config x.sequence records
   pub fits : HeaderFits version x.config x.sequence (length records)
@@ -220,13 +220,13 @@ raw_of_facts lent s v metric found b h f =
       readable = g.readable;
     }
 
-pub raw_file : (lent : ℕ) (s : List ℕ) (x : Snapshot) → Bytes s → read_snapshot lent s ≡ answer x → RawFile s x
+pub raw_file : (lent : ℕ) (s : List ℕ) (x : Snapshot) → Bytes s → read_snapshot lent s ≡ Ok x → RawFile s x
 raw_file lent s x b e =
     let k = (snapshot_facts lent s x e).parts in
     subst (RawFile s) k.is (raw_of_facts lent s k.version k.metric k.found b k.header k.facts)
 
 -- the rows show its records as a reader makes them: a deleted one without caption
-pub raw_seen : (lent : ℕ) (s : List ℕ) (x : Snapshot) (log : List ℕ) → read_snapshot lent s ≡ answer x → (k : RawFile s x)
+pub raw_seen : (lent : ℕ) (s : List ℕ) (x : Snapshot) (log : List ℕ) → read_snapshot lent s ≡ Ok x → (k : RawFile s x)
     → map (seen x.config.dimensions s log) x.rows ≡ map as_read k.records
 raw_seen lent s x log e k =
     let v = k.version in
@@ -239,7 +239,7 @@ raw_seen lent s x log e k =
     ap₂ (λ (l : List ℕ) (rows : List Row). map (seen d l log) rows) k.is (ap (λ (y : Snapshot). y.rows) is)
     ∙ records_seen d (file_with v c q rs) log (header_length v) rs _ (records_here v c q rs) shaped
 
-pub accepted_file : (lent : ℕ) (s : List ℕ) (x : Snapshot) → Bytes s → read_snapshot lent s ≡ answer x → LaidOut s x
+pub accepted_file : (lent : ℕ) (s : List ℕ) (x : Snapshot) → Bytes s → read_snapshot lent s ≡ Ok x → LaidOut s x
 accepted_file lent s x b e =
     let k = raw_file lent s x b e in
     record {

@@ -1,4 +1,5 @@
 -- A frame that is read is the layout of what its rows show: each operation, a batch's operations, the payload, the frame.
+use Rattle.std.specs.Prelude.{Ok}
 use Prim.Native.Nat.{ℕ, zero, suc, ◌+◌, ◌*◌, ◌-◌, ◌%◌, ◌≤◌, ◌<◌, ◌^◌}
 use mathlib.Core.Path.{◌≡◌, refl, sym, ap, ap₂, subst, ◌∙◌}
 use mathlib.Core.Bool.{Bool, true, false, cond}
@@ -12,7 +13,6 @@ use Rattle.fields.proofs.Parts.{length_part}
 use Rattle.fields.proofs.Numbers.{num_lt, bytes_num}
 use Rattle.config.specs.Limits.{min_frame, max_frame}
 use Rattle.config.specs.declared.Config.{Config}
-use Rattle.refusal.specs.Refusal.{answer}
 use Rattle.layout.specs.Layout.{caption_offset, frame_length}
 use Rattle.layout.specs.declared.Shape.{Shape}
 use Rattle.layout.specs.declared.Shape.TheVariants.{Single, Batch}
@@ -108,7 +108,7 @@ module _ (c : Config) (snapshot log : List ℕ) (b : Bytes log) where
         fits = num_lt log at 8 b;
       }
 
-  raw_operation : (end tag at : ℕ) (o : ReadOperation) → end ≤ length log → operation_at c log end tag at ≡ answer o → RawOperation end tag at o
+  raw_operation : (end tag at : ℕ) (o : ReadOperation) → end ≤ length log → operation_at c log end tag at ≡ Ok o → RawOperation end tag at o
   raw_operation end tag at o h e = go (operation_read_lem c log end tag at o e)
     where
       go : OperationHere c log end tag at o → RawOperation end tag at o
@@ -125,7 +125,7 @@ module _ (c : Config) (snapshot log : List ℕ) (b : Bytes log) where
     counted : length (map shown o.operations) ≡ n
     fit : Every (OperationFits c) (map shown o.operations)
 
-  raw_operations : (n end at : ℕ) (o : ReadOperations) → end ≤ length log → operations_at n c log end at ≡ answer o → RawOperations n at o
+  raw_operations : (n end at : ℕ) (o : ReadOperations) → end ≤ length log → operations_at n c log end at ≡ Ok o → RawOperations n at o
   unfolding tagged_bytes
   raw_operations zero end at o h e =
       subst (RawOperations zero at) (sym (operations_none c log end at o e))
@@ -164,14 +164,14 @@ module _ (c : Config) (snapshot log : List ℕ) (b : Bytes log) where
     count : CountHolds shape (length (map shown o.operations))
     fit : Every (OperationFits c) (map shown o.operations)
 
-  raw_single : (end opcode at : ℕ) (o : ReadOperations) → end ≤ length log → operations_of Single c log end opcode (at + 17) ≡ answer o → RawBody Single opcode at o
+  raw_single : (end opcode at : ℕ) (o : ReadOperations) → end ≤ length log → operations_of Single c log end opcode (at + 17) ≡ Ok o → RawBody Single opcode at o
   raw_single end opcode at o h e =
       let s = single_read c log end opcode (at + 17) o e in
       let r = raw_operation end opcode (at + 17) s.this h s.this_read in
       subst (RawBody Single opcode at) (sym s.all_is)
       (record { total = r.size; next_is = r.next_is; opcode_is = r.tag_is; bytes_are = r.fields_are; count = refl; fit = (r.fits, tt) })
 
-  raw_batch : (end at : ℕ) (o : ReadOperations) → end ≤ length log → at + 21 ≤ end → operations_of Batch c log end 3 (at + 17) ≡ answer o → RawBody Batch 3 at o
+  raw_batch : (end at : ℕ) (o : ReadOperations) → end ≤ length log → at + 21 ≤ end → operations_of Batch c log end 3 (at + 17) ≡ Ok o → RawBody Batch 3 at o
   raw_batch end at o h room e =
       let s = batch_read c log end (at + 17) o e in
       let n = num log (at + 17) 4 in
@@ -190,11 +190,11 @@ module _ (c : Config) (snapshot log : List ℕ) (b : Bytes log) where
         fit = r.fit;
       }
 
-  raw_body : (end opcode at : ℕ) (o : ReadOperations) → end ≤ length log → at + 21 ≤ end → operations_of (shape_of opcode) c log end opcode (at + 17) ≡ answer o
+  raw_body : (end opcode at : ℕ) (o : ReadOperations) → end ≤ length log → at + 21 ≤ end → operations_of (shape_of opcode) c log end opcode (at + 17) ≡ Ok o
       → RawBody (shape_of opcode) opcode at o
   raw_body end opcode at o h room = go (eqb opcode 3) refl
     where
-      go : (t : Bool) → eqb opcode 3 ≡ t → operations_of (cond t Batch Single) c log end opcode (at + 17) ≡ answer o → RawBody (cond t Batch Single) opcode at o
+      go : (t : Bool) → eqb opcode 3 ≡ t → operations_of (cond t Batch Single) c log end opcode (at + 17) ≡ Ok o → RawBody (cond t Batch Single) opcode at o
       go true t e =
           let is : opcode ≡ 3 = eqb-true opcode 3 t in
           subst (λ (x : ℕ). RawBody Batch x at o) (sym is) (raw_batch end at o h room e)

@@ -1,4 +1,5 @@
 -- A log is its frames laid out one behind the other: any front of them, up to a tail or a refusal, and of an accepted recovery.
+use Rattle.std.specs.Prelude.{Ok}
 use Prim.Native.Nat.{ℕ, ◌+◌, ◌-◌, ◌<◌}
 use mathlib.Core.Path.{◌≡◌, refl, sym, ap, ap₂, subst, ◌∙◌}
 use mathlib.Core.List.{List, [], ◌∷◌, ◌++◌, map, append_assoc, append-nil}
@@ -6,7 +7,6 @@ use native.Mathlib.Omega.{arith}
 use lib.ListN.{length, take, drop, take-append-drop, length-append, length-drop}
 use Rattle.fields.specs.Fields.{part, Bytes}
 use Rattle.config.specs.declared.Config.{Config}
-use Rattle.refusal.specs.Refusal.{answer}
 use Rattle.refusal.specs.declared.Refusal.{Refusal}
 use Rattle.refusal.proofs.Results.{answer_injective}
 use Rattle.rows.specs.declared.Row.{Row}
@@ -120,7 +120,7 @@ log_is_its_frames lent snapshot log r b e =
     }
 
 -- before a refusal stand the frames of a cut, or nothing
-pub refused_is_its_frames : (lent : ℕ) (snapshot log : List ℕ) (S : Snapshot) (why : Refusal) (at : ℕ) → Bytes log → read_snapshot lent snapshot ≡ answer S
+pub refused_is_its_frames : (lent : ℕ) (snapshot log : List ℕ) (S : Snapshot) (why : Refusal) (at : ℕ) → Bytes log → read_snapshot lent snapshot ≡ Ok S
     → recover lent snapshot log ≡ refused_log why at → BeforeRefusal S.config snapshot log at
 refused_is_its_frames lent snapshot log S why at b reads e = go (refused_at lent snapshot log why at e)
   where

@@ -1,4 +1,5 @@
 -- The captions of deleted records do not count: two accepted snapshots that differ in nothing else are read alike.
+use Rattle.std.specs.Prelude.{Ok}
 use Prim.Native.Nat.{ℕ, ◌+◌, ◌<◌, ◌^◌}
 use mathlib.Core.Path.{◌≡◌, refl, sym, ap, ap₂, subst, subst₂, ◌∙◌}
 use mathlib.Core.Bool.{Bool, true, false, cond}
@@ -6,7 +7,6 @@ use mathlib.Core.List.{List, [], ◌∷◌, map}
 use native.Mathlib.Omega.{arith}
 use lib.ListN.{length, length-map}
 use Rattle.config.specs.declared.Config.{Config}
-use Rattle.refusal.specs.Refusal.{answer}
 use Rattle.meaning.specs.Records.{Record, seen}
 use Rattle.rows.specs.declared.Row.{Row}
 use Rattle.meaning.specs.Snapshot.{version_of, Snapshot, read_snapshot}
@@ -53,7 +53,7 @@ alike v c q rs rs' k k' same =
     }
 
 pub deleted_captions : (lent lent' : ℕ) (s s' : List ℕ) (x y : Snapshot) → DifferInDeleted s s'
-    → read_snapshot lent s ≡ answer x → read_snapshot lent' s' ≡ answer y → ReadAlike s s' x y
+    → read_snapshot lent s ≡ Ok x → read_snapshot lent' s' ≡ Ok y → ReadAlike s s' x y
 deleted_captions lent lent' s s' x y k e e' =
     let v = k.version in
     let c = k.config in
@@ -86,7 +86,7 @@ as_read_shaped d (r ∷ rs) k =
     go true = omega arith
     go false = k.0.caption_fits
 
-rewritten_raw : (lent : ℕ) (s : List ℕ) (x : Snapshot) (log : List ℕ) → read_snapshot lent s ≡ answer x → (k : RawFile s x) → k.version ≡ Two
+rewritten_raw : (lent : ℕ) (s : List ℕ) (x : Snapshot) (log : List ℕ) → read_snapshot lent s ≡ Ok x → (k : RawFile s x) → k.version ≡ Two
     → DifferInDeleted s (file_of x.config x.sequence (map (seen x.config.dimensions s log) x.rows))
 rewritten_raw lent s x log e k two_is =
     let c = x.config in
@@ -109,6 +109,6 @@ rewritten_raw lent s x log e k two_is =
       same = as_read_twice rs;
     }
 
-pub rewritten : (lent : ℕ) (s : List ℕ) (x : Snapshot) (log : List ℕ) → Bytes s → read_snapshot lent s ≡ answer x → num s 8 4 ≡ 2
+pub rewritten : (lent : ℕ) (s : List ℕ) (x : Snapshot) (log : List ℕ) → Bytes s → read_snapshot lent s ≡ Ok x → num s 8 4 ≡ 2
     → DifferInDeleted s (file_of x.config x.sequence (map (seen x.config.dimensions s log) x.rows))
 rewritten lent s x log b e two = let k = raw_file lent s x b e in rewritten_raw lent s x log e k (answer_injective k.version Two (sym k.version_is ∙ ap version_of two))

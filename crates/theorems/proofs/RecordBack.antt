@@ -1,4 +1,5 @@
 -- A record as it stands in a file: its fields are read back, whatever a deleted one has for a caption.
+use Rattle.std.specs.Prelude.{Ok}
 use Prim.Native.Nat.{ℕ, suc, ◌+◌, ◌*◌, ◌≤◌, ◌<◌, ◌^◌}
 use mathlib.Core.Path.{◌≡◌, refl, sym, ap, ap₂, subst, ◌∙◌}
 use mathlib.Core.Bool.{Bool, true, false, cond}
@@ -8,7 +9,7 @@ use lib.ListN.{length, drop, length-append}
 use lib.Dec.{ltb, eqb, lit<}
 use Rattle.fields.specs.Fields.{part, num, bytes}
 use Rattle.config.specs.declared.Config.{Config}
-use Rattle.refusal.specs.Refusal.{answer}
+use Rattle.refusal.specs.Refusal.{Answer}
 use Rattle.refusal.specs.declared.Refusal.TheVariants.{PastTheEnd, WrongFlag, VectorPastTheEnd}
 use Rattle.meaning.specs.Replay.{size}
 use Rattle.meaning.specs.Records.{Record, seen, record_kind}
@@ -108,7 +109,7 @@ row_of_stands c s at r h k =
 
 -- a record that is accepted where it stands is read so
 pub record_read : (c : Config) (s : List ℕ) (end at : ℕ) (r : Record) (rest : List ℕ) (x : ReadRow)
-    → drop at s ≡ record_bytes r ++ rest → Shaped c.dimensions r → record_at c s end at ≡ answer x → x ≡ read_at at r
+    → drop at s ≡ record_bytes r ++ rest → Shaped c.dimensions r → record_at c s end at ≡ Ok x → x ≡ read_at at r
 record_read c s end at r rest x h k e =
     let p = record_stands c.dimensions s at r rest h k in
     let y = record_facts c s end at x e in
@@ -116,7 +117,7 @@ record_read c s end at r rest x h k e =
 
 -- a record that a reader accepts is accepted where it stands
 pub record_back : (c : Config) (s : List ℕ) (end at : ℕ) (r : Record) (rest : List ℕ)
-    → drop at s ≡ record_bytes r ++ rest → at + length (record_bytes r) ≤ end → Readable c r → record_at c s end at ≡ answer (read_at at r)
+    → drop at s ≡ record_bytes r ++ rest → at + length (record_bytes r) ≤ end → Readable c r → record_at c s end at ≡ Ok (read_at at r)
 unfolding record_at
 record_back c s end at r rest h room k =
     let d = c.dimensions in
@@ -129,7 +130,7 @@ record_back c s end at r rest h room k =
     pass PastTheEnd (ltb end (at + 9)) _ (le-ltb end (at + 9) (omega arith))
     ∙ pass WrongFlag (ltb 1 (num s (at + 8) 1)) _ (le-ltb 1 (num s (at + 8) 1) (omega arith))
     ∙ go_on (item_at VectorPastTheEnd c s end (at + 9)) _ n (item_reads VectorPastTheEnd c s end (at + 9) n i)
-    ∙ ap answer (row_of_stands c s at r p k.shaped)
+    ∙ ap Ok (row_of_stands c s at r p k.shaped)
   where
     flag_bit : (t : Bool) → flag_of t ≤ 1
     flag_bit true = omega arith
@@ -177,9 +178,9 @@ next_here s at r rs rest h =
 abbrev pub all_at : ℕ → List Record → ReadRows
 all_at at rs = record { rows = file_rows at rs; next = at + length (records_bytes rs) }
 
-all_nil : (at : ℕ) → answer (record { rows = []; next = at }) ≡ answer (all_at at [])
+all_nil : (at : ℕ) → ◌≡◌ {A = Answer ReadRows} (Ok (record { rows = []; next = at })) (Ok (all_at at []))
 unfolding file_rows records_bytes
-all_nil at = let e : at ≡ at + 0 = omega arith in ap (λ (n : ℕ). answer (record { rows = []; next = n })) e
+all_nil at = let e : at ≡ at + 0 = omega arith in ap (λ (n : ℕ). Ok (record { rows = []; next = n })) e
 
 all_cons : (at : ℕ) (r : Record) (rs : List Record) → record { rows = record_row at r ∷ file_rows (at + length (record_bytes r)) rs; next = at + length (record_bytes r) + length (records_bytes rs) } ≡ all_at at (r ∷ rs)
 unfolding file_rows records_bytes
@@ -189,7 +190,7 @@ all_cons at r rs =
 
 pub records_back : (c : Config) (s : List ℕ) (end at : ℕ) (rs : List Record) (rest : List ℕ)
     → drop at s ≡ records_bytes rs ++ rest → at + length (records_bytes rs) ≤ end → Every (Readable c) rs
-    → records_at (length rs) c s end at ≡ answer (all_at at rs)
+    → records_at (length rs) c s end at ≡ Ok (all_at at rs)
 unfolding records_at file_rows records_bytes
 records_back c s end at [] rest h room k = all_nil at
 records_back c s end at (r ∷ rs) rest h room k =
@@ -199,11 +200,11 @@ records_back c s end at (r ∷ rs) rest h room k =
     let e2 = records_back c s end (at + length (record_bytes r)) rs rest p.1 (omega arith) k.1 in
     go_on (record_at c s end at) _ (read_at at r) e1
     ∙ go_on (records_at (length rs) c s end (at + length (record_bytes r))) _ _ e2
-    ∙ ap answer (all_cons at r rs)
+    ∙ ap Ok (all_cons at r rs)
 
 -- records that are accepted where they stand are read so
 pub records_read : (c : Config) (s : List ℕ) (end at : ℕ) (rs : List Record) (rest : List ℕ) (x : ReadRows)
-    → drop at s ≡ records_bytes rs ++ rest → Every (Shaped c.dimensions) rs → records_at (length rs) c s end at ≡ answer x → x ≡ all_at at rs
+    → drop at s ≡ records_bytes rs ++ rest → Every (Shaped c.dimensions) rs → records_at (length rs) c s end at ≡ Ok x → x ≡ all_at at rs
 unfolding records_at
 records_read c s end at [] rest x h k e = sym (answer_injective _ x e) ∙ answer_injective _ _ (all_nil at)
 records_read c s end at (r ∷ rs) rest x h k e =
@@ -211,7 +212,7 @@ records_read c s end at (r ∷ rs) rest x h k e =
     let s1 = passed (record_at c s end at) _ x e in
     let e1 = record_read c s end at r _ s1.value p.0 k.0 s1.first in
     let s2 = passed (records_at (length rs) c s end s1.value.next) _ x s1.then in
-    let f2 : records_at (length rs) c s end (at + length (record_bytes r)) ≡ answer s2.value = ap (λ (y : ReadRow). records_at (length rs) c s end y.next) (sym e1) ∙ s2.first in
+    let f2 : records_at (length rs) c s end (at + length (record_bytes r)) ≡ Ok s2.value = ap (λ (y : ReadRow). records_at (length rs) c s end y.next) (sym e1) ∙ s2.first in
     let e2 = records_read c s end (at + length (record_bytes r)) rs rest s2.value p.1 k.1 f2 in
     sym (answer_injective _ x s2.then) ∙ ap₂ (λ (y : ReadRow) (z : ReadRows). record { rows = y.row ∷ z.rows; next = z.next }) e1 e2 ∙ all_cons at r rs
 

@@ -1,5 +1,6 @@
 -- Two accepted snapshots that differ only in the captions of deleted records, lengths included, recover with one log and equal tables
 -- lent to the same answer, snapshot CRC and row offsets excepted; and to the same records.
+use Rattle.std.specs.Prelude.{Ok}
 use Prim.Native.Nat.{ℕ, zero, suc, ◌*◌, ◌-◌}
 use native.Mathlib.Omega.{arith}
 use mathlib.Core.Path.{◌≡◌, refl, sym, ap, ap₂, ◌∙◌}
@@ -9,7 +10,6 @@ use lib.ListN.{length, get_or, length-map}
 use lib.Dec.{ltb}
 use Rattle.fields.specs.Fields.{Bytes}
 use Rattle.config.specs.declared.Config.{Config}
-use Rattle.refusal.specs.Refusal.{answer}
 use Rattle.meaning.specs.Replay.{Frame, Outcome, reached, stopped, Bounds, replay}
 use Rattle.meaning.specs.Records.{Record, row_kind, seen}
 use Rattle.rows.specs.declared.Row.{Row}
@@ -52,7 +52,7 @@ weighed_same d s s' log (x ∷ xs) (y ∷ ys) e p =
     let ps : map placeless xs ≡ map placeless ys = cc in
     ap₂ ◌∷◌ (ap₂ (λ (a : Record) (n : ℕ). record { value = a; caption = n }) v (ap (λ (r : Row). r.caption_length) w)) (weighed_same d s s' log xs ys es ps)
 
-module _ (lent : ℕ) (s s' log : List ℕ) (x y : Snapshot) (e : read_snapshot lent s ≡ answer x) (e' : read_snapshot lent s' ≡ answer y) (k : ReadAlike s s' x y) where
+module _ (lent : ℕ) (s s' log : List ℕ) (x y : Snapshot) (e : read_snapshot lent s ≡ Ok x) (e' : read_snapshot lent s' ≡ Ok y) (k : ReadAlike s s' x y) where
   abbrev L : Bounds
   L = bounds_for lent
 
@@ -100,12 +100,12 @@ module _ (lent : ℕ) (s s' log : List ℕ) (x y : Snapshot) (e : read_snapshot 
 
 -- the whole answer, but for snapshot CRC and row offsets
 pub deleted_captions_answer : (lent : ℕ) (s s' log : List ℕ) (x y : Snapshot) → DifferInDeleted s s'
-    → read_snapshot lent s ≡ answer x → read_snapshot lent s' ≡ answer y → without_places (recover lent s log) ≡ without_places (recover lent s' log)
+    → read_snapshot lent s ≡ Ok x → read_snapshot lent s' ≡ Ok y → without_places (recover lent s log) ≡ without_places (recover lent s' log)
 deleted_captions_answer lent s s' log x y k e e' = same_answer lent s s' log x y e e' (deleted_captions lent lent s s' x y k e e')
 
 -- and the same records
 pub deleted_captions_records : (lent : ℕ) (s s' log : List ℕ) (x y : Snapshot) → Bytes log → DifferInDeleted s s'
-    → read_snapshot lent s ≡ answer x → read_snapshot lent s' ≡ answer y → compared s log (recover lent s log) ≡ compared s' log (recover lent s' log)
+    → read_snapshot lent s ≡ Ok x → read_snapshot lent s' ≡ Ok y → compared s log (recover lent s log) ≡ compared s' log (recover lent s' log)
 deleted_captions_records lent s s' log x y bl k e e' = same_told lent s s' log x y e e' (deleted_captions lent lent s s' x y k e e') bl
 
 -- ---- in the words of the answer
@@ -175,7 +175,7 @@ told_placeless z log r =
 
 -- every value of the answer but the snapshot CRC, and the active entries
 pub deleted_captions_told : (lent : ℕ) (s s' log : List ℕ) (x y : Snapshot) (r r' : Recovered) → DifferInDeleted s s'
-    → read_snapshot lent s ≡ answer x → read_snapshot lent s' ≡ answer y → recover lent s log ≡ recovered r → recover lent s' log ≡ recovered r'
+    → read_snapshot lent s ≡ Ok x → read_snapshot lent s' ≡ Ok y → recover lent s log ≡ recovered r → recover lent s' log ≡ recovered r'
     → (told_without_crc (recovery_told log r) ≡ told_without_crc (recovery_told log r')) × (active_nodes (rows_of r) ≡ active_nodes (rows_of r'))
 unfolding active_or
 deleted_captions_told lent s s' log x y r r' k e e' a a' =

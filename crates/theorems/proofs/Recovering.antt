@@ -1,4 +1,5 @@
 -- What an accepted recovery says of its parts.
+use Rattle.std.specs.Prelude.{Ok, Err}
 use Prim.Native.Nat.{ℕ, ◌+◌, ◌≤◌, ◌<◌, ◌^◌}
 use native.Mathlib.Omega.{arith}
 use mathlib.Core.Path.{◌≡◌, refl, sym, ap, ◌∙◌, subst}
@@ -10,7 +11,7 @@ use Rattle.fields.specs.Fields.{Bytes, num}
 use Rattle.fields.proofs.Numbers.{num_lt}
 use Rattle.config.specs.Limits.{max_log_bytes}
 use Rattle.config.specs.declared.Config.{Config}
-use Rattle.refusal.specs.Refusal.{Result, answer, refused}
+use Rattle.refusal.specs.Refusal.{Answer}
 use Rattle.refusal.specs.declared.Refusal.TheVariants.{LogTooLong}
 use Rattle.meaning.specs.Replay.{Kind, Frame, End, tail, bad, Frames, State, Outcome, reached, stopped, Bounds, step, run, replay, begins, onward}
 use Rattle.meaning.specs.Records.{row_kind}
@@ -41,9 +42,9 @@ module _ {A : Type 0} (K : Kind A) (L : Bounds) (q : ℕ) where
   run_tail [] (bad why at) s t k h = absurd (let z : ◌≡◌ {A = ℕ} 0 1 = cc in omega arith)
   run_tail (f ∷ fs) e s t k h = go (step K L q f s) h (λ u x. run_tail fs e u t k x)
     where
-      go : (r : Result (State A)) → onward f.start r (run K L q fs e) ≡ reached t k → ((u : State A) → run K L q fs e u ≡ reached t k → e ≡ tail k) → e ≡ tail k
-      go (answer u) x more = more u x
-      go (refused why) x more = absurd (let z : ◌≡◌ {A = ℕ} 0 1 = cc in omega arith)
+      go : (r : Answer (State A)) → onward f.start r (run K L q fs e) ≡ reached t k → ((u : State A) → run K L q fs e u ≡ reached t k → e ≡ tail k) → e ≡ tail k
+      go (Ok u) x more = more u x
+      go (Err why) x more = absurd (let z : ◌≡◌ {A = ℕ} 0 1 = cc in omega arith)
 
   -- the sequence reached is the first state's or that of a frame
   pub sequence_of : (P : ℕ → Type 0) (fs : List (Frame A)) (s t : State A) → Ran K L q fs s t → Every (λ f. P f.sequence) fs → P s.sequence → P t.sequence
@@ -71,7 +72,7 @@ sequences_fit c log b =
 pub record Accepted (lent : ℕ) (snapshot log : List ℕ) (r : Recovered) : Type 0 where
   pub short : length log ≤ max_log_bytes
   pub read : Snapshot
-  pub reads : read_snapshot lent snapshot ≡ answer read
+  pub reads : read_snapshot lent snapshot ≡ Ok read
   pub same_config : r.config ≡ read.config
   pub same_crc : r.crc ≡ read.crc
   pub replays : replay (row_kind read.config.dimensions) (bounds_for lent) read.sequence read.rows (frames_of read.config log) ≡ reached r.state r.keep
@@ -95,15 +96,15 @@ accepted lent snapshot log r h = first (ltb max_log_bytes (length log)) refl h
     crc z (refused_snapshot why) = z.crc
     crc z (refused_log why at) = z.crc
 
-    third : (s : Snapshot) → read_snapshot lent snapshot ≡ answer s → length log ≤ max_log_bytes → (o : Outcome Row)
+    third : (s : Snapshot) → read_snapshot lent snapshot ≡ Ok s → length log ≤ max_log_bytes → (o : Outcome Row)
         → replay (row_kind s.config.dimensions) (bounds_for lent) s.sequence s.rows (frames_of s.config log) ≡ o → ended s o ≡ recovered r → Accepted lent snapshot log r
     third s e short (reached st at) o h =
         record { short = short; read = s; reads = e; same_config = ap (config r) (sym h); same_crc = ap (crc r) (sym h); replays = o ∙ ap state h }
     third s e short (stopped why at) o h = absurd (let z : ◌≡◌ {A = ℕ} 0 1 = cc in omega arith)
 
-    second : (x : Result Snapshot) → read_snapshot lent snapshot ≡ x → length log ≤ max_log_bytes → with_snapshot lent log x ≡ recovered r → Accepted lent snapshot log r
-    second (answer s) e short h = third s e short _ refl h
-    second (refused why) e short h = absurd (let z : ◌≡◌ {A = ℕ} 0 1 = cc in omega arith)
+    second : (x : Answer Snapshot) → read_snapshot lent snapshot ≡ x → length log ≤ max_log_bytes → with_snapshot lent log x ≡ recovered r → Accepted lent snapshot log r
+    second (Ok s) e short h = third s e short _ refl h
+    second (Err why) e short h = absurd (let z : ◌≡◌ {A = ℕ} 0 1 = cc in omega arith)
 
     first : (b : Bool) → ltb max_log_bytes (length log) ≡ b → cond b (refused_log LogTooLong 0) (with_snapshot lent log (read_snapshot lent snapshot)) ≡ recovered r → Accepted lent snapshot log r
     first true e h = absurd (let z : ◌≡◌ {A = ℕ} 0 1 = cc in omega arith)
@@ -132,13 +133,13 @@ module _ (lent : ℕ) (snapshot log : List ℕ) (r : Recovered) (a : Accepted le
       ran (row_kind c.dimensions) (bounds_for lent) a.read.sequence (frames_of c log).frames (begins a.read.sequence a.read.rows) r.state r.keep r.keep replays_frames
 
 -- recovery once the snapshot is read
-pub recover_read : (lent : ℕ) (snapshot log : List ℕ) (s : Snapshot) → read_snapshot lent snapshot ≡ answer s → length log ≤ max_log_bytes
+pub recover_read : (lent : ℕ) (snapshot log : List ℕ) (s : Snapshot) → read_snapshot lent snapshot ≡ Ok s → length log ≤ max_log_bytes
     → recover lent snapshot log ≡ replay_log lent log s
 recover_read lent snapshot log s e short = short_enough lent snapshot log short ∙ ap (with_snapshot lent log) e
 
 -- two snapshots beside one log: what is told alike of their replays, and of a log that is too long, is told alike of their recoveries
 pub recover_alike : {B : Type 0} (f g : Recovery → B) (lent : ℕ) (s s' log : List ℕ) (x y : Snapshot)
-    → read_snapshot lent s ≡ answer x → read_snapshot lent s' ≡ answer y
+    → read_snapshot lent s ≡ Ok x → read_snapshot lent s' ≡ Ok y
     → f (refused_log LogTooLong 0) ≡ g (refused_log LogTooLong 0) → f (replay_log lent log x) ≡ g (replay_log lent log y)
     → f (recover lent s log) ≡ g (recover lent s' log)
 recover_alike f g lent s s' log x y e e' long same = go (ltb max_log_bytes (length log)) refl

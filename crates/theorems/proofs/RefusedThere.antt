@@ -1,4 +1,5 @@
 -- What `specs/RefusedAt.antt` says: where a replay stops, and what stands there in the log.
+use Rattle.std.specs.Prelude.{Ok, Err}
 use Prim.Native.Nat.{ℕ, ◌≤◌}
 use native.Mathlib.Omega.{arith}
 use mathlib.Core.Path.{◌≡◌, refl, sym, ap, ◌∙◌, subst}
@@ -9,7 +10,7 @@ use lib.Dec.{ltb}
 use borrow.Author.Tests.{ltb-true, ltb-false}
 use Rattle.config.specs.Limits.{max_log_bytes}
 use Rattle.config.specs.declared.Config.{Config}
-use Rattle.refusal.specs.Refusal.{Result, answer, refused}
+use Rattle.refusal.specs.Refusal.{Answer}
 use Rattle.refusal.specs.declared.Refusal.{Refusal}
 use Rattle.refusal.specs.declared.Refusal.TheVariants.{LogTooLong}
 use Rattle.rows.specs.declared.Row.{Row}
@@ -49,7 +50,7 @@ module _ {A : Type 0} (K : Kind A) (L : Bounds) (q : ℕ) where
   -- at its end, which is bad, or at a frame that is refused
   abbrev StopsHere : List (Frame A) → End → State A → Refusal → ℕ → Type 0
   StopsHere [] end s why at = end ≡ bad why at
-  StopsHere (f ∷ fs) end s why at = (step K L q f s ≡ refused why) × (f.start ≡ at)
+  StopsHere (f ∷ fs) end s why at = (step K L q f s ≡ Err why) × (f.start ≡ at)
 
   pub record Stops (fs : List (Frame A)) (end : End) (s : State A) (why : Refusal) (at : ℕ) : Type 0 where
     pub front : List (Frame A)
@@ -68,9 +69,9 @@ module _ {A : Type 0} (K : Kind A) (L : Bounds) (q : ℕ) where
       record { front = []; behind = []; parts = refl; state = s; reads = refl; here = λ i. bad (by i) (place i) }
   stops (f ∷ fs) end s why at e = go (step K L q f s) refl e (λ m. stops fs end m why at)
     where
-      go : (x : Result (State A)) → step K L q f s ≡ x → onward f.start x (run K L q fs end) ≡ stopped why at
+      go : (x : Answer (State A)) → step K L q f s ≡ x → onward f.start x (run K L q fs end) ≡ stopped why at
           → ((m : State A) → run K L q fs end m ≡ stopped why at → Stops fs end m why at) → Stops (f ∷ fs) end s why at
-      go (answer m) h d rest =
+      go (Ok m) h d rest =
           let r = rest m d in
           record {
             front = f ∷ r.front;
@@ -80,14 +81,14 @@ module _ {A : Type 0} (K : Kind A) (L : Bounds) (q : ℕ) where
             reads = (m, h, r.reads);
             here = r.here;
           }
-      go (refused w) h d rest =
+      go (Err w) h d rest =
           record {
             front = [];
             behind = f ∷ fs;
             parts = refl;
             state = s;
             reads = refl;
-            here = (h ∙ ap (λ (x : Refusal). refused x) (stopped_by d), stopped_at d);
+            here = (h ∙ ap (λ (x : Refusal). Err x) (stopped_by d), stopped_at d);
           }
 
 -- ---- what is read behind some first frames
@@ -124,7 +125,7 @@ refused_here_lem c log previous at k why e = go (frame_at c log previous at) ref
 
 -- ---- the refusal of a log
 module _ (lent : ℕ) (snapshot log : List ℕ) (why : Refusal) (at : ℕ) (short : length log ≤ max_log_bytes) where
-  module _ (S : Snapshot) (reads : read_snapshot lent snapshot ≡ answer S) where
+  module _ (S : Snapshot) (reads : read_snapshot lent snapshot ≡ Ok S) where
     abbrev c : Config
     c = S.config
 
@@ -180,9 +181,9 @@ module _ (lent : ℕ) (snapshot log : List ℕ) (why : Refusal) (at : ℕ) (shor
         let s = stops K (bounds_for lent) S.sequence (frames_of c log).frames (frames_of c log).ended start why at (r ∙ (λ i. stopped (by i) (place i))) in
         in_cut s.front s.behind (frames_of c log).ended s.state (ap (λ (l : List (Frame Row)). record { frames = l; ended = (frames_of c log).ended }) s.parts) s.reads s.here
 
-  with_snapshot_lem : (x : Result Snapshot) → read_snapshot lent snapshot ≡ x → with_snapshot lent log x ≡ refused_log why at → RefusedAt lent snapshot log why at
-  with_snapshot_lem (answer S) r e = stopped_there S r _ refl e
-  with_snapshot_lem (refused w) r e = absurd (let z : ◌≡◌ {A = ℕ} 0 1 = cc in omega arith)
+  with_snapshot_lem : (x : Answer Snapshot) → read_snapshot lent snapshot ≡ x → with_snapshot lent log x ≡ refused_log why at → RefusedAt lent snapshot log why at
+  with_snapshot_lem (Ok S) r e = stopped_there S r _ refl e
+  with_snapshot_lem (Err w) r e = absurd (let z : ◌≡◌ {A = ℕ} 0 1 = cc in omega arith)
 
 pub refused_at : (lent : ℕ) (snapshot log : List ℕ) (why : Refusal) (at : ℕ) → recover lent snapshot log ≡ refused_log why at → RefusedAt lent snapshot log why at
 unfolding recover
@@ -218,7 +219,7 @@ module _ {lent : ℕ} {snapshot log : List ℕ} (cut : Cut lent snapshot log) wh
   stops_there why (unread w) = ap onwards (frames_at_bad settings log (last_sequence 0 cut.front) (place cut) why w)
   stops_there why (unplayed f next w r) =
       ap onwards (frames_at_found settings log (last_sequence 0 cut.front) (place cut) f next w)
-      ∙ ap (λ (x : Result (State Row)). onward f.start x
+      ∙ ap (λ (x : Answer (State Row)). onward f.start x
       (run (row_kind settings.dimensions) (bounds_for lent) cut.accepted.sequence (frames_at settings log f.sequence next).frames (frames_at settings log f.sequence next).ended)) r
       ∙ ap (λ (k : ℕ). stopped why k) (frame_bounds settings log (last_sequence 0 cut.front) (place cut) f next w).start_is
 

@@ -1,4 +1,5 @@
 -- What was read is fit to be written.
+use Rattle.std.specs.Prelude.{Ok}
 use Prim.Native.Nat.{ℕ, ◌+◌, ◌≤◌, ◌<◌, ◌^◌}
 use mathlib.Core.Path.{◌≡◌, refl, sym, ap, ap₂, subst, ◌∙◌}
 use mathlib.Core.Bool.{false}
@@ -13,7 +14,6 @@ use Rattle.config.specs.Limits.{max_records, max_snapshot_bytes}
 use Rattle.config.specs.Settings.{validate}
 use Rattle.config.specs.declared.Config.{Config}
 use Rattle.config.specs.declared.Metric.{Metric}
-use Rattle.refusal.specs.Refusal.{answer}
 use Rattle.meaning.specs.Replay.{size}
 use Rattle.meaning.specs.Records.{row_kind, record_kind, source, caption_start, seen}
 use Rattle.rows.specs.declared.Row.{Row}
@@ -36,7 +36,7 @@ read_sourced c s log end b h r w =
 
 -- what an accepted snapshot is
 pub record SnapshotFits (lent : ℕ) (s : List ℕ) (x : Snapshot) : Type 0 where
-  pub valid : validate x.config ≡ answer tt
+  pub valid : validate x.config ≡ Ok tt
   pub seed_fits : x.config.seed < 256 ^ 8
   pub sequence_fits : x.sequence < 256 ^ 8
   pub crc_is : x.crc ≡ crc_of (part s 0 (body_length s))
@@ -76,7 +76,7 @@ fits_of_parts lent s v metric found b h f once =
       short = h.short_enough;
     }
 
-pub snapshot_fits : (lent : ℕ) (s : List ℕ) (x : Snapshot) → Bytes s → read_snapshot lent s ≡ answer x → SnapshotFits lent s x
+pub snapshot_fits : (lent : ℕ) (s : List ℕ) (x : Snapshot) → Bytes s → read_snapshot lent s ≡ Ok x → SnapshotFits lent s x
 snapshot_fits lent s x b e =
     let r = snapshot_facts lent s x e in
     let k = r.parts in

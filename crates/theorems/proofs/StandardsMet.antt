@@ -1,10 +1,11 @@
 -- What `specs/Standards.antt` says, from the laws of `coordinates`, `utf8` and `crc32`.
+use Rattle.std.specs.Prelude.{Err}
 use Prim.Native.Nat.{ℕ}
 use mathlib.Core.Path.{◌≡◌, refl, sym, ap₂}
 use mathlib.Core.Bool.{Bool, ◌&&◌, cond}
 use mathlib.Core.List.{List, [], ◌∷◌, map}
 use lib.Ieee.Scale.{finite}
-use Rattle.refusal.specs.Refusal.{refused, passes}
+use Rattle.refusal.specs.Refusal.{passes}
 use Rattle.refusal.specs.declared.Refusal.TheVariants.{NotFinite, VectorAllZero}
 use Rattle.crc32.proofs.Known.{crc_check}
 use Rattle.utf8.proofs.Laws as Utf8Laws
@@ -25,7 +26,7 @@ zero_values (b ∷ bs) = ap₂ ◌&&◌ (sym (zero_bits b)) (zero_values bs)
 vector_by_values : (cosine : Bool) (bs : List ℕ) → vector_of cosine bs ≡ values_test cosine (map value_of bs)
 unfolding vector_of
 vector_by_values cosine bs =
-    ap₂ (λ (f z : Bool). cond f (cond (cosine && z) (refused VectorAllZero) passes) (refused NotFinite)) (finite_values bs) (zero_values bs)
+    ap₂ (λ (f z : Bool). cond f (cond (cosine && z) (Err VectorAllZero) passes) (Err NotFinite)) (finite_values bs) (zero_values bs)
 
 pub standards : Standards
 standards =

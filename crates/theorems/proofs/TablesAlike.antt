@@ -1,12 +1,12 @@
 -- Two accepted snapshots that differ only in the captions of deleted records recover, with one log and equal tables lent, to the same
 -- tables, row offsets excepted: whether recovery accepts or refuses.
+use Rattle.std.specs.Prelude.{Ok}
 use Prim.Native.Nat.{ℕ, zero, suc, ◌+◌, ◌*◌, ◌-◌}
 use native.Mathlib.Omega.{arith}
 use mathlib.Core.Path.{◌≡◌, refl, sym, ap, ap₂, ◌∙◌}
 use mathlib.Core.List.{List, [], ◌∷◌, ◌++◌, map}
 use lib.ListN.{length, get_or, replicate, length-map, length-append, length-replicate, get_or-map}
 use Rattle.fields.specs.Fields.{Bytes}
-use Rattle.refusal.specs.Refusal.{answer}
 use Rattle.rows.specs.Lent.{rows_lent}
 use Rattle.rows.specs.Rows.{row_of, row_at, row_word, RowFits}
 use Rattle.rows.proofs.RowLaws.{row_of_word}
@@ -69,7 +69,7 @@ rows_or (refused_snapshot why) = []
 rows_or (refused_log why at) = []
 
 pub deleted_captions_tables : (words entries s s' log : List ℕ) (x y : Snapshot) → Bytes s → Bytes s' → Bytes log → DifferInDeleted s s'
-    → read_snapshot (rows_lent words entries) s ≡ answer x → read_snapshot (rows_lent words entries) s' ≡ answer y
+    → read_snapshot (rows_lent words entries) s ≡ Ok x → read_snapshot (rows_lent words entries) s' ≡ Ok y
     → SameButPlaces (recover_tables words entries (recover_call words entries s log)) (recover_tables words entries (recover_call words entries s' log))
 unfolding rows_or
 deleted_captions_tables words entries s s' log x y bs bs' bl k e e' =

@@ -1,4 +1,5 @@
 -- Each frame of an accepted log is taken once: where each node comes from, what is counted, and the other way.
+use Rattle.std.specs.Prelude.{Ok}
 use Prim.Native.Nat.{ℕ, ◌+◌, ◌≤◌}
 use mathlib.Core.Path.{◌≡◌, sym, ap, ◌∙◌, subst, refl, ap₂}
 use mathlib.Core.List.{List, [], ◌∷◌, ◌++◌, map, append_assoc, append-nil}
@@ -18,7 +19,6 @@ use Rattle.meaning.proofs.FramesAt.{frames_of_lem}
 use Rattle.config.specs.Limits.{max_log_bytes}
 use native.Mathlib.Omega.{arith}
 use Rattle.meaning.specs.Snapshot.{Snapshot, read_snapshot}
-use Rattle.refusal.specs.Refusal.{answer}
 use lib.ListN.{length}
 use mathlib.Core.Bool.{Bool, true, false, cond}
 use Rattle.layout.specs.declared.Shape.{Shape}
@@ -35,20 +35,20 @@ mark_origin d id (r ∷ rs) = ap₂ ◌∷◌ (go (live_as (row_kind d) id r)) (
     go true = refl
     go false = refl
 
-put_origin : (d : ℕ) (L : Bounds) (r : Row) (rs ts : List Row) → apply_put (row_kind d) L r rs ≡ answer ts → map origin ts ≡ map origin rs ++ (origin r ∷ [])
+put_origin : (d : ℕ) (L : Bounds) (r : Row) (rs ts : List Row) → apply_put (row_kind d) L r rs ≡ Ok ts → map origin ts ≡ map origin rs ++ (origin r ∷ [])
 put_origin d L r rs ts e =
     ap (map origin) (put_done (row_kind d) L r rs ts e).result
     ∙ map_append origin (mark (row_kind d) r.id.0 rs) (r ∷ [])
     ∙ ap (λ (l : List Row). l ++ (origin r ∷ [])) (mark_origin d r.id.0 rs)
 
-remove_origin : (d : ℕ) (shape : Shape) (id : ℕ) (rs ts : List Row) → apply_remove (row_kind d) shape id rs ≡ answer ts → map origin ts ≡ map origin rs
+remove_origin : (d : ℕ) (shape : Shape) (id : ℕ) (rs ts : List Row) → apply_remove (row_kind d) shape id rs ≡ Ok ts → map origin ts ≡ map origin rs
 remove_origin d shape id rs ts e = go (remove_done (row_kind d) shape id rs ts e)
   where
     go : RemoveDone (row_kind d) shape id rs ts → map origin ts ≡ map origin rs
     go (marks _ h) = ap (map origin) h ∙ mark_origin d id rs
     go (leaves _ _ h) = ap (map origin) h
 
-all_origin : (d : ℕ) (L : Bounds) (shape : Shape) (os : List (Operation Row)) (rs ts : List Row) → apply_all (row_kind d) L shape os rs ≡ answer ts
+all_origin : (d : ℕ) (L : Bounds) (shape : Shape) (os : List (Operation Row)) (rs ts : List Row) → apply_all (row_kind d) L shape os rs ≡ Ok ts
     → map origin ts ≡ map origin rs ++ map origin (puts_of os)
 unfolding apply_all puts_of
 all_origin d L shape [] rs ts e = ap (map origin) (sym (answer_injective rs ts e)) ∙ sym (append-nil (map origin rs))
@@ -63,7 +63,7 @@ all_origin d L shape (remove id ∷ os) rs ts e =
     ∙ ap (λ (l : List Row). l ++ map origin (puts_of os)) (remove_origin d shape id rs s.value s.first)
 
 -- each node is a record of the snapshot or one put of a replayed frame, in order, each once and none else
-pub frames_origin : (d : ℕ) (L : Bounds) (fs : List (Frame Row)) (rs ts : List Row) → apply_frames (row_kind d) L fs rs ≡ answer ts
+pub frames_origin : (d : ℕ) (L : Bounds) (fs : List (Frame Row)) (rs ts : List Row) → apply_frames (row_kind d) L fs rs ≡ Ok ts
     → map origin ts ≡ map origin rs ++ map origin (puts_in fs)
 unfolding apply_frames puts_in
 frames_origin d L [] rs ts e = ap (map origin) (sym (answer_injective rs ts e)) ∙ sym (append-nil (map origin rs))
@@ -104,10 +104,10 @@ taken_once lent snapshot log r e =
     }
 
 -- the other way
-pub taken_if : (lent : ℕ) (snapshot log : List ℕ) (S : Snapshot) (k : ℕ) (rows : List Row) → length log ≤ max_log_bytes → read_snapshot lent snapshot ≡ answer S
+pub taken_if : (lent : ℕ) (snapshot log : List ℕ) (S : Snapshot) (k : ℕ) (rows : List Row) → length log ≤ max_log_bytes → read_snapshot lent snapshot ≡ Ok S
     → (frames_of S.config log).ended ≡ tail k
     → Consecutive S.sequence (above S.sequence (frames_of S.config log).frames)
-    → apply_frames (row_kind S.config.dimensions) (bounds_for lent) (above S.sequence (frames_of S.config log).frames) S.rows ≡ answer rows
+    → apply_frames (row_kind S.config.dimensions) (bounds_for lent) (above S.sequence (frames_of S.config log).frames) S.rows ≡ Ok rows
     → recover lent snapshot log ≡ recovered (replayed_to S (frames_of S.config log).frames k rows)
 taken_if lent snapshot log S k rows short reads end c applies =
     let q = S.sequence in

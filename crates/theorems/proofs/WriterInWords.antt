@@ -1,5 +1,6 @@
 -- Demand 3 over the answer of the writer itself: the file is what `write` gives for the tables that recovery left at the cut, lent the
 -- log's front up to the cut with anything behind it, or nothing.
+use Rattle.std.specs.Prelude.{Ok}
 use Prim.Native.Nat.{ℕ, ◌≤◌}
 use native.Mathlib.Omega.{arith}
 use mathlib.Core.Path.{◌≡◌, sym, ap, ap₂, ◌∙◌, subst}
@@ -11,7 +12,6 @@ use Rattle.fields.proofs.Numbers.{Bytes-take}
 use Rattle.config.specs.Limits.{max_snapshot_bytes}
 use Rattle.config.specs.declared.Config.{Config}
 use Rattle.rows.specs.Lent.{rows_lent}
-use Rattle.refusal.specs.Refusal.{answer}
 use Rattle.refusal.specs.declared.Refusal.TheVariants.{TooLarge, OutputTooShort}
 use Rattle.meaning.specs.Records.{seen}
 use Rattle.meaning.specs.File.{file_of}
@@ -45,7 +45,7 @@ length_full lent snapshot log r bs bl e =
     length_file_of c r.state.sequence rs wide ∙ ap snapshot_length (size_seen c snapshot log (rows_of r) sourced))
 
 module _ (words active snapshot log : List ℕ) (cut : Cut (rows_lent words active) snapshot log) (bs : Bytes snapshot) (bl : Bytes log) (more : List ℕ) (room : ℕ) (file : List ℕ)
-    (wrote : write Full (there cut).config (there cut).state.sequence (recover_tables words active (recovered (there cut))).rows (record_count (there cut)) snapshot (take (place cut) log ++ more) room ≡ answer file) where
+    (wrote : write Full (there cut).config (there cut).state.sequence (recover_tables words active (recovered (there cut))).rows (record_count (there cut)) snapshot (take (place cut) log ++ more) room ≡ Ok file) where
   abbrev front : List ℕ
   front = take (place cut) log
 
@@ -79,11 +79,11 @@ module _ (words active snapshot log : List ℕ) (cut : Cut (rows_lent words acti
 -- Recover, then write: the file of the tables that recovery left, written with the log lent, recovers beside the log as the old snapshot
 -- did, and beside the log's tail alone to the same records, settings, sequence and tail.
 module _ (words active snapshot log : List ℕ) (r : Recovered) (bs : Bytes snapshot) (bl : Bytes log) (given : recover (rows_lent words active) snapshot log ≡ recovered r) (room : ℕ) (file : List ℕ)
-    (wrote : write Full r.config r.state.sequence (recover_tables words active (recovered r)).rows (record_count r) snapshot log room ≡ answer file) where
+    (wrote : write Full r.config r.state.sequence (recover_tables words active (recovered r)).rows (record_count r) snapshot log room ≡ Ok file) where
   end : CutTo (rows_lent words active) snapshot log r
   end = cut_of_accepted (rows_lent words active) snapshot log r given
 
-  there_wrote : write Full (there end.cut).config (there end.cut).state.sequence (recover_tables words active (recovered (there end.cut))).rows (record_count (there end.cut)) snapshot (take (place end.cut) log ++ drop (place end.cut) log) room ≡ answer file
+  there_wrote : write Full (there end.cut).config (there end.cut).state.sequence (recover_tables words active (recovered (there end.cut))).rows (record_count (there end.cut)) snapshot (take (place end.cut) log ++ drop (place end.cut) log) room ≡ Ok file
   there_wrote =
       ap₂ (λ (x : Recovered) (l : List ℕ). write Full x.config x.state.sequence (recover_tables words active (recovered x)).rows (record_count x) snapshot l room) end.is (take-append-drop (place end.cut) log)
       ∙ wrote

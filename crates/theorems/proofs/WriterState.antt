@@ -1,4 +1,5 @@
 -- The writer takes every row that lies in its sources: of rows that are sourced it refuses nothing for 30 or 31.
+use Rattle.std.specs.Prelude.{Ok}
 use Prim.Native.Nat.{ℕ, ◌+◌, ◌≤◌}
 use native.Mathlib.Omega.{arith}
 use mathlib.Core.Path.{◌≡◌, refl, sym, ap, ◌∙◌}
@@ -11,7 +12,6 @@ use Rattle.config.specs.Limits.{max_metadata}
 use Rattle.config.specs.declared.Config.{Config}
 use Rattle.config.specs.Settings.{validate}
 use Rattle.rows.specs.Lent.{rows_lent_plain}
-use Rattle.refusal.specs.Refusal.{answer}
 use Rattle.refusal.specs.declared.Refusal.TheVariants.{NoSuchNode, RowDoesNotFit}
 use Rattle.meaning.specs.Records.{source, caption_start, seen}
 use Rattle.rows.specs.Rows.{RowFits}
@@ -51,7 +51,7 @@ module _ (c : Config) (snapshot log : List ℕ) where
   -- a table of sourced rows is taken as it is
   pub state_taken : (n : ℕ) (rows : List Row) → Every (Sourced c snapshot log) rows → Every RowFits rows
       → length rows ≤ rows_lent_plain (filled n (row_words rows))
-      → state_rows c (filled n (row_words rows)) (length rows) snapshot log ≡ answer rows
+      → state_rows c (filled n (row_words rows)) (length rows) snapshot log ≡ Ok rows
   unfolding state_rows
   state_taken n rows sourced packs lent =
       let words : List ℕ = filled n (row_words rows) in
@@ -59,10 +59,10 @@ module _ (c : Config) (snapshot log : List ℕ) where
       let a : ltb (rows_lent_plain words) (length rows) ≡ false = le-ltb (rows_lent_plain words) (length rows) lent in
       let b : any_misfit c snapshot log (rows_in (length rows) words) ≡ false
       = ap (any_misfit c snapshot log) e ∙ none_misfit rows sourced in
-      pass NoSuchNode _ _ a ∙ pass RowDoesNotFit _ _ b ∙ ap answer e
+      pass NoSuchNode _ _ a ∙ pass RowDoesNotFit _ _ b ∙ ap Ok e
 
   -- so the writer comes to 34 and 32
-  pub writer_comes : (extent : Extent) (q n room : ℕ) (rows : List Row) → validate c ≡ answer tt → Every (Sourced c snapshot log) rows → Every RowFits rows
+  pub writer_comes : (extent : Extent) (q n room : ℕ) (rows : List Row) → validate c ≡ Ok tt → Every (Sourced c snapshot log) rows → Every RowFits rows
       → length rows ≤ rows_lent_plain (filled n (row_words rows))
       → write extent c q (filled n (row_words rows)) (length rows) snapshot log room ≡ file_of_rows c q snapshot log room (written extent rows)
   unfolding write write_valid

@@ -1,5 +1,6 @@
 -- Of a state that recovery gave, with the sources it was given for, the writer refuses nothing but 34 and 32, whether it is lent
 -- the log that was read or a longer one; and what it writes is demand 3's file.
+use Rattle.std.specs.Prelude.{Ok}
 use Prim.Native.Nat.{ℕ, ◌+◌, ◌-◌, ◌≤◌}
 use native.Mathlib.Omega.{arith}
 use mathlib.Core.Path.{◌≡◌, sym, ap, ◌∙◌, subst}
@@ -11,7 +12,7 @@ use Rattle.fields.specs.Fields.{Bytes}
 use Rattle.config.specs.Limits.{max_metadata, max_snapshot_bytes, max_log_bytes}
 use Rattle.config.specs.declared.Config.{Config}
 use Rattle.rows.specs.Lent.{rows_lent, rows_lent_plain}
-use Rattle.refusal.specs.Refusal.{answer, refuse, ◌>>=◌}
+use Rattle.refusal.specs.Refusal.{refuse, ◌>>=◌}
 use Rattle.refusal.specs.declared.Refusal.TheVariants.{TooLarge, OutputTooShort}
 use Rattle.meaning.specs.Records.{Record, seen}
 use Rattle.rows.specs.Rows.{RowFits}
@@ -98,7 +99,7 @@ module _ (words active : List ℕ) (snapshot log more : List ℕ) (r : Recovered
       → write Full r.config r.state.sequence table (record_count r) snapshot (log ++ more) room
       ≡ (refuse TooLarge (ltb max_snapshot_bytes (file_length r.config.dimensions (rows_of r)))
       >>= λ _. refuse OutputTooShort (ltb room (file_length r.config.dimensions (rows_of r)))
-      >>= λ _. answer (full_snapshot snapshot log r))
+      >>= λ _. Ok (full_snapshot snapshot log r))
   unfolding file_of_rows
   writer_writes room =
       let e : map (seen r.config.dimensions snapshot (log ++ more)) (rows_of r) ≡ records_of snapshot log r =
@@ -107,4 +108,4 @@ module _ (words active : List ℕ) (snapshot log more : List ℕ) (r : Recovered
       writer_takes Full room
       ∙ ap (λ (rs : List Record). refuse TooLarge (ltb max_snapshot_bytes (file_length r.config.dimensions (rows_of r)))
       >>= λ _. refuse OutputTooShort (ltb room (file_length r.config.dimensions (rows_of r)))
-      >>= λ _. answer (file_of r.config r.state.sequence rs)) e
+      >>= λ _. Ok (file_of r.config r.state.sequence rs)) e

@@ -1,9 +1,8 @@
 -- Every accepted snapshot is, byte for byte, the file of its settings, its sequence and the records that stand in it, of version 1 or 2;
 -- so of two accepted snapshots `DifferInDeleted` asks no more than that they differ in nothing else.
-use Rattle.std.specs.Prelude.{ℕ, ◌≡◌, List, map, length}
+use Rattle.std.specs.Prelude.{ℕ, ◌≡◌, List, map, length, Ok}
 use Rattle.fields.specs.Fields.{Bytes}
 use Rattle.layout.specs.declared.Version.{Version}
-use Rattle.refusal.specs.Refusal.{answer}
 use Rattle.meaning.specs.Every.{Every}
 use Rattle.meaning.specs.Records.{Record, seen}
 use Rattle.meaning.specs.Snapshot.{Snapshot, read_snapshot}
@@ -21,4 +20,4 @@ pub record LaidOut (s : List ℕ) (x : Snapshot) : Type 0 where
   pub shows : (log : List ℕ) → map (seen x.config.dimensions s log) x.rows ≡ map as_read records
 
 pub record AcceptedFile : Type 0 where
-  pub accepted_file : (lent : ℕ) (s : List ℕ) (x : Snapshot) → Bytes s → read_snapshot lent s ≡ answer x → LaidOut s x
+  pub accepted_file : (lent : ℕ) (s : List ℕ) (x : Snapshot) → Bytes s → read_snapshot lent s ≡ Ok x → LaidOut s x

@@ -1,7 +1,6 @@
 -- A log is cut before its first frame or after any frame that recovery reads without refusal, and a snapshot is written of the state there.
-use Rattle.std.specs.Prelude.{ℕ, ◌≤◌, ◌≡◌, List, [], ◌∷◌, ◌++◌, take}
+use Rattle.std.specs.Prelude.{ℕ, ◌≤◌, ◌≡◌, List, [], ◌∷◌, ◌++◌, take, Ok}
 use Rattle.config.specs.Limits.{max_log_bytes}
-use Rattle.refusal.specs.Refusal.{answer}
 use Rattle.rows.specs.declared.Row.{Row}
 use Rattle.meaning.specs.Replay.{Kind, Frame, End, State, Bounds, step, begins}
 use Rattle.meaning.specs.Records.{row_kind}
@@ -15,13 +14,13 @@ module _ {A : Type 0} (K : Kind A) (L : Bounds) (q : ℕ) where
   -- the frames lead from one state to the other, each in order skipped or replayed
   abbrev pub Ran : List (Frame A) → State A → State A → Type 0
   Ran [] s t = s ≡ t
-  Ran (f ∷ fs) s t = (m : State A) × (step K L q f s ≡ answer m) × Ran fs m t
+  Ran (f ∷ fs) s t = (m : State A) × (step K L q f s ≡ Ok m) × Ran fs m t
 
 -- Of the log's frames some first ones are read without refusal, one after the other, to a state. `byte_after log 0 front` is the byte
 -- behind the last of them, and 0 where there is none: before the first frame.
 pub record Cut (lent : ℕ) (snapshot log : List ℕ) : Type 0 where
   pub accepted : Snapshot
-  pub accepts : read_snapshot lent snapshot ≡ answer accepted
+  pub accepts : read_snapshot lent snapshot ≡ Ok accepted
   pub front : List (Frame Row)
   pub behind : List (Frame Row)
   pub end : End

@@ -1,11 +1,10 @@
 -- The playout host's delete frame: 29 bytes, what the encoder writes of one delete. Of a live ID and appended to a log that recovery
 -- read to its last byte, the next recovery accepts with that ID deleted and all else the same.
-use Rattle.std.specs.Prelude.{ℕ, suc, ◌+◌, ◌≤◌, ◌<◌, ◌^◌, ◌≡◌, ◌⊎◌, true, List, [], ◌∷◌, ◌++◌, length}
+use Rattle.std.specs.Prelude.{ℕ, suc, ◌+◌, ◌≤◌, ◌<◌, ◌^◌, ◌≡◌, ◌⊎◌, true, List, [], ◌∷◌, ◌++◌, length, Ok}
 use Rattle.config.specs.Limits.{max_log_bytes}
 use Rattle.config.specs.Settings.{validate}
 use Rattle.config.specs.declared.Config.{Config}
 use Rattle.fields.specs.Fields.{Bytes}
-use Rattle.refusal.specs.Refusal.{answer}
 use Rattle.layout.specs.declared.Shape.TheVariants.{Single}
 use Rattle.rows.specs.declared.Row.{Row}
 use Rattle.meaning.specs.Replay.{remove, Frame, tail, active, mark}
@@ -41,8 +40,8 @@ pub record DeleteAppended : Type 0 where
   pub length_delete : (sequence id : ℕ) → length (delete_frame sequence id) ≡ 29
   pub delete_bytes : (sequence id : ℕ) → Bytes (delete_frame sequence id)
   -- it is what the encoder writes of one delete
-  pub delete_encodes : (c : Config) (sequence id : ℕ) (captions : List ℕ) (room : ℕ) → validate c ≡ answer tt → 0 < sequence → 29 ≤ room
-      → encode Single c sequence (id ∷ 0 ∷ []) [] captions room ≡ answer (delete_frame sequence id)
+  pub delete_encodes : (c : Config) (sequence id : ℕ) (captions : List ℕ) (room : ℕ) → validate c ≡ Ok tt → 0 < sequence → 29 ≤ room
+      → encode Single c sequence (id ∷ 0 ∷ []) [] captions room ≡ Ok (delete_frame sequence id)
   pub delete_requested : (c : Config) (id : ℕ) (coords captions : List ℕ) → requested c (id ∷ 0 ∷ []) coords captions ≡ remove id ∷ []
   pub delete_appended : (c : Config) (sequence id : ℕ) → 0 < sequence → sequence < 256 ^ 8 → id < 256 ^ 8
       → (log : List ℕ) (fs : List (Frame Row)) → frames_of c log ≡ record { frames = fs; ended = tail (length log) } → Follows (last_sequence 0 fs) sequence
@@ -53,7 +52,7 @@ pub record DeleteAppended : Type 0 where
       }
   -- the next recovery
   pub delete_recovered : (lent : ℕ) (snapshot log : List ℕ) (r : Recovered) → recover lent snapshot log ≡ recovered r
-      → (S : Snapshot) → read_snapshot lent snapshot ≡ answer S → NotOlder S log → tail_length log r ≡ 0
+      → (S : Snapshot) → read_snapshot lent snapshot ≡ Ok S → NotOlder S log → tail_length log r ≡ 0
       → (sequence id : ℕ) → sequence ≡ r.state.sequence + 1 → sequence < 256 ^ 8 → id < 256 ^ 8
       → active (row_kind r.config.dimensions) id (rows_of r) ≡ true → length log + 29 ≤ max_log_bytes
       → recover lent snapshot (log ++ delete_frame sequence id) ≡ recovered (with_deleted id r)
@@ -62,4 +61,4 @@ pub record DeleteAppended : Type 0 where
       → (id : ℕ) (more : List ℕ) → records_of snapshot (log ++ more) (with_deleted id r) ≡ mark (record_kind r.config.dimensions) id (records_of snapshot log r)
   -- a log of which recovery replayed a frame is not older
   pub replayed_not_older : (lent : ℕ) (snapshot log : List ℕ) (r : Recovered) → recover lent snapshot log ≡ recovered r
-      → (S : Snapshot) → read_snapshot lent snapshot ≡ answer S → 0 < r.state.replayed → NotOlder S log
+      → (S : Snapshot) → read_snapshot lent snapshot ≡ Ok S → 0 < r.state.replayed → NotOlder S log

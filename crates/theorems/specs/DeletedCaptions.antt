@@ -1,9 +1,8 @@
 -- The captions of deleted records do not count: two accepted snapshots that differ in nothing else, lengths included, recover with one
 -- log and equal tables lent to the same answer, the same records and the same tables, snapshot CRC and row offsets excepted.
-use Rattle.std.specs.Prelude.{ℕ, ◌≡◌, List, map, length}
+use Rattle.std.specs.Prelude.{ℕ, ◌≡◌, List, map, length, Ok}
 use Rattle.fields.specs.Fields.{num, Bytes}
 use Rattle.config.specs.declared.Config.{Config}
-use Rattle.refusal.specs.Refusal.{answer}
 use Rattle.layout.specs.declared.Version.{Version}
 use Rattle.rows.specs.Lent.{rows_lent}
 use Rattle.rows.specs.Rows.{row_at}
@@ -79,18 +78,18 @@ pub record SameButPlaces (t t' : Tables) : Type 0 where
 pub record DeletedCaptions : Type 0 where
   -- the whole answer, but for snapshot CRC and row offsets
   pub captions_answer : (lent : ℕ) (s s' log : List ℕ) (x y : Snapshot) → DifferInDeleted s s'
-      → read_snapshot lent s ≡ answer x → read_snapshot lent s' ≡ answer y → without_places (recover lent s log) ≡ without_places (recover lent s' log)
+      → read_snapshot lent s ≡ Ok x → read_snapshot lent s' ≡ Ok y → without_places (recover lent s log) ≡ without_places (recover lent s' log)
   -- in the words of the answer: every value but the snapshot CRC, and the active entries
   pub captions_told : (lent : ℕ) (s s' log : List ℕ) (x y : Snapshot) (r r' : Recovered) → DifferInDeleted s s'
-      → read_snapshot lent s ≡ answer x → read_snapshot lent s' ≡ answer y → recover lent s log ≡ recovered r → recover lent s' log ≡ recovered r'
+      → read_snapshot lent s ≡ Ok x → read_snapshot lent s' ≡ Ok y → recover lent s log ≡ recovered r → recover lent s' log ≡ recovered r'
       → (told_without_crc (recovery_told log r) ≡ told_without_crc (recovery_told log r')) × (active_nodes (rows_of r) ≡ active_nodes (rows_of r'))
   -- the same records
   pub captions_records : (lent : ℕ) (s s' log : List ℕ) (x y : Snapshot) → Bytes log → DifferInDeleted s s'
-      → read_snapshot lent s ≡ answer x → read_snapshot lent s' ≡ answer y → compared s log (recover lent s log) ≡ compared s' log (recover lent s' log)
+      → read_snapshot lent s ≡ Ok x → read_snapshot lent s' ≡ Ok y → compared s log (recover lent s log) ≡ compared s' log (recover lent s' log)
   -- the tables after, whether recovery accepts or refuses
   pub captions_tables : (words entries s s' log : List ℕ) (x y : Snapshot) → Bytes s → Bytes s' → Bytes log → DifferInDeleted s s'
-      → read_snapshot (rows_lent words entries) s ≡ answer x → read_snapshot (rows_lent words entries) s' ≡ answer y
+      → read_snapshot (rows_lent words entries) s ≡ Ok x → read_snapshot (rows_lent words entries) s' ≡ Ok y
       → SameButPlaces (recover_tables words entries (recover_call words entries s log)) (recover_tables words entries (recover_call words entries s' log))
   -- the file written of an accepted snapshot of version 2 differs from it in no more
-  pub rewritten : (lent : ℕ) (s : List ℕ) (x : Snapshot) (log : List ℕ) → Bytes s → read_snapshot lent s ≡ answer x → num s 8 4 ≡ 2
+  pub rewritten : (lent : ℕ) (s : List ℕ) (x : Snapshot) (log : List ℕ) → Bytes s → read_snapshot lent s ≡ Ok x → num s 8 4 ≡ 2
       → DifferInDeleted s (file_of x.config x.sequence (map (seen x.config.dimensions s log) x.rows))

@@ -1,9 +1,8 @@
 -- Demand 3 in its own words: take a snapshot we accept and a log, cut the log before its first frame or after any frame that recovery
 -- reads without refusal, and write the full snapshot of the state there, if it fits.
-use Rattle.std.specs.Prelude.{ℕ, ◌≤◌, ◌≡◌, List, [], ◌∷◌, ◌++◌, length, take, drop}
+use Rattle.std.specs.Prelude.{ℕ, ◌≤◌, ◌≡◌, List, [], ◌∷◌, ◌++◌, length, take, drop, Ok}
 use Rattle.fields.specs.Fields.{Bytes}
 use Rattle.config.specs.Limits.{max_snapshot_bytes}
-use Rattle.refusal.specs.Refusal.{answer}
 use Rattle.rows.specs.declared.Row.{Row}
 use Rattle.meaning.specs.Replay.{Frame}
 use Rattle.meaning.specs.Snapshot.{Snapshot, read_snapshot}
@@ -38,5 +37,5 @@ pub record Demand3 : Type 0 where
   pub cut_of_accepted_front : (lent : ℕ) (snapshot front rest : List ℕ) (r : Recovered) → recover lent snapshot front ≡ recovered r
       → CutTo lent snapshot (front ++ rest) r
   pub cut_of_accepted_frames : (lent : ℕ) (snapshot log : List ℕ) (r : Recovered) → recover lent snapshot log ≡ recovered r
-      → (S : Snapshot) → read_snapshot lent snapshot ≡ answer S → (fs gs : List (Frame Row)) → (frames_of S.config log).frames ≡ fs ++ gs
+      → (S : Snapshot) → read_snapshot lent snapshot ≡ Ok S → (fs gs : List (Frame Row)) → (frames_of S.config log).frames ≡ fs ++ gs
       → (cut : Cut lent snapshot log) × (cut.front ≡ fs)

@@ -1,9 +1,9 @@
 -- Nothing is taken twice and nothing left out: of an accepted recovery every frame of the log is counted exactly once, skipped or
 -- replayed; the skipped ones are a front of the log and the replayed ones the rest; the records are the fold of the replayed frames'
 -- operations over the snapshot's, and with them every record, its node and its source.
-use Rattle.std.specs.Prelude.{ℕ, ◌+◌, ◌≤◌, false, cond, ◌≡◌, List, [], ◌∷◌, ◌++◌, map, length, leb}
+use Rattle.std.specs.Prelude.{ℕ, ◌+◌, ◌≤◌, false, cond, ◌≡◌, List, [], ◌∷◌, ◌++◌, map, length, leb, Ok}
 use Rattle.config.specs.Limits.{max_log_bytes}
-use Rattle.refusal.specs.Refusal.{Result, answer, ◌>>=◌}
+use Rattle.refusal.specs.Refusal.{Answer, ◌>>=◌}
 use Rattle.rows.specs.declared.Row.{Row}
 use Rattle.meaning.specs.Replay.{Kind, Operation, put, remove, Frame, tail, Bounds, apply_all}
 use Rattle.meaning.specs.Records.{row_kind}
@@ -22,8 +22,8 @@ above q [] = []
 above q (f ∷ fs) = cond (leb f.sequence q) (above q fs) (f ∷ above q fs)
 
 -- the operations of each frame, frame after frame
-unfoldable pub apply_frames : {A : Type 0} → Kind A → Bounds → List (Frame A) → List A → Result (List A)
-apply_frames K L [] rs = answer rs
+unfoldable pub apply_frames : {A : Type 0} → Kind A → Bounds → List (Frame A) → List A → Answer (List A)
+apply_frames K L [] rs = Ok rs
 apply_frames K L (f ∷ fs) rs = apply_all K L f.shape f.operations rs >>= apply_frames K L fs
 
 -- a node's origin: its ID, its source and its place there; state and caption left out
@@ -41,7 +41,7 @@ puts_in (f ∷ fs) = puts_of f.operations ++ puts_in fs
 
 pub record TakenOnce (lent : ℕ) (snapshot log : List ℕ) (r : Recovered) : Type 0 where
   pub read : Snapshot
-  pub reads : read_snapshot lent snapshot ≡ answer read
+  pub reads : read_snapshot lent snapshot ≡ Ok read
   -- the log's frames, all of them good, and where they end
   pub frames : List (Frame Row)
   pub frames_are : frames_of read.config log ≡ record { frames = frames; ended = tail r.keep }
@@ -58,7 +58,7 @@ pub record TakenOnce (lent : ℕ) (snapshot log : List ℕ) (r : Recovered) : Ty
   pub consecutive : Consecutive read.sequence (above read.sequence frames)
   pub sequence : r.state.sequence ≡ read.sequence + r.state.replayed
   -- the rows are the fold of the replayed frames over the snapshot's
-  pub rows : apply_frames (row_kind read.config.dimensions) (bounds_for lent) (above read.sequence frames) read.rows ≡ answer (rows_of r)
+  pub rows : apply_frames (row_kind read.config.dimensions) (bounds_for lent) (above read.sequence frames) read.rows ≡ Ok (rows_of r)
   -- each node is a record of the snapshot or one put of one replayed frame, in their order, and there is no other
   pub origins : map origin (rows_of r) ≡ map origin read.rows ++ map origin (puts_in (above read.sequence frames))
 
@@ -80,8 +80,8 @@ replayed_to S frames k rows =
 pub record EachFrameOnce : Type 0 where
   pub taken_once : (lent : ℕ) (snapshot log : List ℕ) (r : Recovered) → recover lent snapshot log ≡ recovered r → TakenOnce lent snapshot log r
   -- the other way: good frames up to a tail that follow the snapshot with no gap, and whose operations go through, are accepted
-  pub taken_if : (lent : ℕ) (snapshot log : List ℕ) (S : Snapshot) (k : ℕ) (rows : List Row) → length log ≤ max_log_bytes → read_snapshot lent snapshot ≡ answer S
+  pub taken_if : (lent : ℕ) (snapshot log : List ℕ) (S : Snapshot) (k : ℕ) (rows : List Row) → length log ≤ max_log_bytes → read_snapshot lent snapshot ≡ Ok S
       → (frames_of S.config log).ended ≡ tail k
       → Consecutive S.sequence (above S.sequence (frames_of S.config log).frames)
-      → apply_frames (row_kind S.config.dimensions) (bounds_for lent) (above S.sequence (frames_of S.config log).frames) S.rows ≡ answer rows
+      → apply_frames (row_kind S.config.dimensions) (bounds_for lent) (above S.sequence (frames_of S.config log).frames) S.rows ≡ Ok rows
       → recover lent snapshot log ≡ recovered (replayed_to S (frames_of S.config log).frames k rows)

@@ -1,9 +1,8 @@
 -- What an encoder writes is decoded as the operations that were asked for, wherever the frame stands in a log, and at a log's end.
-use Rattle.std.specs.Prelude.{ℕ, ◌+◌, ◌≤◌, ◌<◌, ◌^◌, ◌≡◌, List, [], ◌∷◌, ◌++◌, map, length, drop}
+use Rattle.std.specs.Prelude.{ℕ, ◌+◌, ◌≤◌, ◌<◌, ◌^◌, ◌≡◌, List, [], ◌∷◌, ◌++◌, map, length, drop, Ok}
 use Rattle.fields.specs.Fields.{Bytes}
 use Rattle.config.specs.Limits.{min_frame, max_frame}
 use Rattle.config.specs.declared.Config.{Config}
-use Rattle.refusal.specs.Refusal.{answer}
 use Rattle.layout.specs.Layout.{frame_length}
 use Rattle.layout.specs.declared.Shape.{Shape}
 use Rattle.rows.specs.declared.Row.{Row}
@@ -32,8 +31,8 @@ pub record FrameOf (shape : Shape) (c : Config) (sequence : ℕ) (os : List (Ope
 
 pub record FrameReadBack : Type 0 where
   pub encode_back : (shape : Shape) (c : Config) (sequence : ℕ) (words coords captions : List ℕ) (room : ℕ) (bs : List ℕ)
-      → Every (λ x. x < 2 ^ 64) words → sequence < 256 ^ 8 → encode shape c sequence words coords captions room ≡ answer bs
+      → Every (λ x. x < 2 ^ 64) words → sequence < 256 ^ 8 → encode shape c sequence words coords captions room ≡ Ok bs
       → FrameOf shape c sequence (requested c words coords captions) bs
   pub encode_bytes : (shape : Shape) (c : Config) (sequence : ℕ) (words coords captions : List ℕ) (room : ℕ) (bs : List ℕ)
-      → Every (λ x. x < 2 ^ 64) words → sequence < 256 ^ 8 → encode shape c sequence words coords captions room ≡ answer bs
+      → Every (λ x. x < 2 ^ 64) words → sequence < 256 ^ 8 → encode shape c sequence words coords captions room ≡ Ok bs
       → Bytes captions → Bytes bs

@@ -1,10 +1,9 @@
 -- A frame that is read is, byte for byte, the layout of the operations that its rows show; so a log is its frames laid out one behind
 -- the other, from its first byte to the one at which a tail begins, or a frame that is refused.
-use Rattle.std.specs.Prelude.{ℕ, ◌+◌, ◌-◌, ◌≤◌, ◌<◌, ◌^◌, false, ◌≡◌, List, [], ◌∷◌, ◌++◌, map, length, take, drop}
+use Rattle.std.specs.Prelude.{ℕ, ◌+◌, ◌-◌, ◌≤◌, ◌<◌, ◌^◌, false, ◌≡◌, List, [], ◌∷◌, ◌++◌, map, length, take, drop, Ok}
 use Rattle.fields.specs.Fields.{part, Bytes}
 use Rattle.config.specs.Limits.{min_frame, max_frame}
 use Rattle.config.specs.declared.Config.{Config}
-use Rattle.refusal.specs.Refusal.{answer}
 use Rattle.refusal.specs.declared.Refusal.{Refusal}
 use Rattle.rows.specs.declared.Row.{Row}
 use Rattle.meaning.specs.Every.{Every}
@@ -116,7 +115,7 @@ pub record LaidOutLogs : Type 0 where
       → frames_of c log ≡ record { frames = fs; ended = bad why k } → FrontLaidOut c snapshot log fs k
   pub log_is_its_frames : (lent : ℕ) (snapshot log : List ℕ) (r : Recovered) → Bytes log
       → recover lent snapshot log ≡ recovered r → LogLaidOut snapshot log r
-  pub refused_is_its_frames : (lent : ℕ) (snapshot log : List ℕ) (S : Snapshot) (why : Refusal) (at : ℕ) → Bytes log → read_snapshot lent snapshot ≡ answer S
+  pub refused_is_its_frames : (lent : ℕ) (snapshot log : List ℕ) (S : Snapshot) (why : Refusal) (at : ℕ) → Bytes log → read_snapshot lent snapshot ≡ Ok S
       → recover lent snapshot log ≡ refused_log why at → BeforeRefusal S.config snapshot log at
   -- the other way: a layout is read as its frame wherever it stands behind one that it can follow; and so are layouts from a log's first
   -- byte on, with fewer than 8 bytes behind them

@@ -1,8 +1,7 @@
 -- A refusal in the log names its frame's first byte: the log is too long (20, byte 0); or behind the frames that were read stands, at
 -- that byte, a frame that is refused as it is decoded or as it is replayed.
-use Rattle.std.specs.Prelude.{ℕ, ◌≤◌, ◌<◌, ◌≡◌, List, length}
+use Rattle.std.specs.Prelude.{ℕ, ◌≤◌, ◌<◌, ◌≡◌, List, length, Err}
 use Rattle.config.specs.Limits.{max_log_bytes}
-use Rattle.refusal.specs.Refusal.{refused}
 use Rattle.refusal.specs.declared.Refusal.{Refusal}
 use Rattle.refusal.specs.declared.Refusal.TheVariants.{LogTooLong}
 use Rattle.rows.specs.declared.Row.{Row}
@@ -21,7 +20,7 @@ standing {lent} {snapshot} {log} cut = frame_at cut.accepted.config log (last_se
 pub data FrameRefused (lent : ℕ) (snapshot log : List ℕ) (cut : Cut lent snapshot log) (why : Refusal) : Type 0 where
   unread : standing cut ≡ wrong why → FrameRefused lent snapshot log cut why
   unplayed : (f : Frame Row) (next : ℕ) → standing cut ≡ found f next
-      → step (row_kind cut.accepted.config.dimensions) (bounds_for lent) cut.accepted.sequence f cut.state ≡ refused why
+      → step (row_kind cut.accepted.config.dimensions) (bounds_for lent) cut.accepted.sequence f cut.state ≡ Err why
       → FrameRefused lent snapshot log cut why
 
 -- by this refusal, at this byte

@@ -1,10 +1,10 @@
 -- The tests behind 12, 13 and 15 are the standards' own: IEEE 754's, of the values that bit patterns stand for (std's `Float.Ieee`), and
 -- RFC 3629's, by its grammar (utf8/Utf8). The contracts cite the tests by bits and bytes. And the CRC has its published check value.
-use Rattle.std.specs.Prelude.{ℕ, ◌≤◌, ◌≡◌, Bool, true, ◌&&◌, cond, List, [], ◌∷◌, map, length, take, Float}
+use Rattle.std.specs.Prelude.{ℕ, ◌≤◌, ◌≡◌, Bool, true, ◌&&◌, cond, List, [], ◌∷◌, map, length, take, Float, Err}
 use Rattle.std.specs.Float.{binary32}
 use Rattle.std.specs.Float.Ieee.{of_bits, eq}
 use Rattle.std.specs.Float.Ieee.Scale.{finite}
-use Rattle.refusal.specs.Refusal.{Result, refused, passes}
+use Rattle.refusal.specs.Refusal.{Answer, passes}
 use Rattle.refusal.specs.declared.Refusal.TheVariants.{NotFinite, VectorAllZero}
 use Rattle.crc32.specs.Crc.{crc_of}
 use Rattle.utf8.specs.Utf8.{Octets, valid_front, is_utf8}
@@ -24,8 +24,8 @@ every_value test [] = true
 every_value test (x ∷ xs) = test x && every_value test xs
 
 -- 12 where a value is not finite, then 13 where the metric is cosine and each value is zero
-abbrev pub values_test : Bool → List Float → Result (Unit {0})
-values_test cosine xs = cond (every_value finite xs) (cond (cosine && every_value is_zero xs) (refused VectorAllZero) passes) (refused NotFinite)
+abbrev pub values_test : Bool → List Float → Answer (Unit {0})
+values_test cosine xs = cond (every_value finite xs) (cond (cosine && every_value is_zero xs) (Err VectorAllZero) passes) (Err NotFinite)
 
 -- ---- RFC 3629
 -- a test is true exactly if the fact holds

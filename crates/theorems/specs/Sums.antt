@@ -1,11 +1,10 @@
 -- The sums at the edges, P1 to P12 of document 01 but P10, which is the cache's, and its worked example: each on bytes.
-use Rattle.std.specs.Prelude.{ℕ, ◌+◌, ◌≡◌, true, false, List, [], ◌∷◌, ◌++◌}
+use Rattle.std.specs.Prelude.{ℕ, ◌+◌, ◌≡◌, true, false, List, [], ◌∷◌, ◌++◌, Ok, Err}
 use Rattle.crc32.specs.Crc.{crc_of}
 use Rattle.utf8.specs.Utf8.{is_utf8}
 use Rattle.config.specs.Settings.{settings}
 use Rattle.config.specs.declared.Metric.TheVariants.{SquaredL2}
 use Rattle.rows.specs.Rows.{row_word}
-use Rattle.refusal.specs.Refusal.{answer, refused}
 use Rattle.refusal.specs.declared.Refusal.TheVariants.{WrongLength, WrongCount, VectorAllZero, WrongSequence, GapAfterSnapshot}
 use Rattle.layout.specs.declared.Shape.TheVariants.{Single, Batch}
 use Rattle.meaning.specs.Replay.{put, remove, Frame}
@@ -84,23 +83,23 @@ example_recovered = record { config = settings 1 16 200 42 SquaredL2; crc = 3544
 
 pub record Sums : Type 0 where
   pub p1 : crc_of [] ≡ 0
-  pub p2 : length_at (16 ∷ 0 ∷ 0 ∷ 0 ∷ 131 ∷ 136 ∷ 93 ∷ 113 ∷ []) 0 ≡ refused WrongLength
-  pub p2_passes : length_at (17 ∷ 0 ∷ 0 ∷ 0 ∷ 230 ∷ 239 ∷ 225 ∷ 201 ∷ []) 0 ≡ answer 17
-  pub p3 : length_at (0 ∷ 0 ∷ 128 ∷ 0 ∷ 87 ∷ 71 ∷ 199 ∷ 26 ∷ []) 0 ≡ answer 8388608
-  pub p3_more : length_at (1 ∷ 0 ∷ 128 ∷ 0 ∷ 50 ∷ 32 ∷ 123 ∷ 162 ∷ []) 0 ≡ refused WrongLength
+  pub p2 : length_at (16 ∷ 0 ∷ 0 ∷ 0 ∷ 131 ∷ 136 ∷ 93 ∷ 113 ∷ []) 0 ≡ Err WrongLength
+  pub p2_passes : length_at (17 ∷ 0 ∷ 0 ∷ 0 ∷ 230 ∷ 239 ∷ 225 ∷ 201 ∷ []) 0 ≡ Ok 17
+  pub p3 : length_at (0 ∷ 0 ∷ 128 ∷ 0 ∷ 87 ∷ 71 ∷ 199 ∷ 26 ∷ []) 0 ≡ Ok 8388608
+  pub p3_more : length_at (1 ∷ 0 ∷ 128 ∷ 0 ∷ 50 ∷ 32 ∷ 123 ∷ 162 ∷ []) 0 ≡ Err WrongLength
   pub p4 : recover 1 example_snapshot (1 ∷ 2 ∷ 3 ∷ 4 ∷ 5 ∷ 6 ∷ 7 ∷ []) ≡ recovered (record { config = settings 1 16 200 42 SquaredL2; crc = 354460059; state = record { records = []; sequence = 0; replayed = 0; skipped = 0 }; keep = 0 })
   pub p4_tail : tail_length (1 ∷ 2 ∷ 3 ∷ 4 ∷ 5 ∷ 6 ∷ 7 ∷ []) (record { config = settings 1 16 200 42 SquaredL2; crc = 354460059; state = record { records = []; sequence = 0; replayed = 0; skipped = 0 }; keep = 0 }) ≡ 7
   pub p5 : recover 1 snapshot4 log45 ≡ recovered (record { config = settings 1 16 200 42 SquaredL2; crc = 3239177500; state = record { records = record { id = record { 0 = 7 }; deleted = false; from_log = true; caption_length = 2; at = 64 } ∷ []; sequence = 5; replayed = 1; skipped = 1 }; keep = 78 })
   pub p6 : recover 1 snapshot4 log6 ≡ refused_log GapAfterSnapshot 0
   pub p7 : recover 1 snapshot4 log35 ≡ refused_log WrongSequence 39
-  pub p8 : read_snapshot 1 one_record1 ≡ refused WrongCount
-  pub p8_version_2 : read_snapshot 1 one_record2 ≡ answer (record { config = settings 1 16 200 42 SquaredL2; crc = 3860728703; sequence = 0; rows = record { id = record { 0 = 7 }; deleted = false; from_log = false; caption_length = 0; at = 61 } ∷ [] })
+  pub p8 : read_snapshot 1 one_record1 ≡ Err WrongCount
+  pub p8_version_2 : read_snapshot 1 one_record2 ≡ Ok (record { config = settings 1 16 200 42 SquaredL2; crc = 3860728703; sequence = 0; rows = record { id = record { 0 = 7 }; deleted = false; from_log = false; caption_length = 0; at = 61 } ∷ [] })
   pub p9 : is_utf8 (0xF4 ∷ 0x8F ∷ 0xBF ∷ 0xBF ∷ []) ≡ true
   pub p9_overlong : is_utf8 (0xC0 ∷ 0x80 ∷ []) ≡ false
   pub p9_surrogate : is_utf8 (0xED ∷ 0xA0 ∷ 0x80 ∷ []) ≡ false
   pub p9_past : is_utf8 (0xF4 ∷ 0x90 ∷ 0x80 ∷ 0x80 ∷ []) ≡ false
   pub p9_empty : is_utf8 [] ≡ true
-  pub p11 : read_snapshot 1 cosine_zero ≡ refused VectorAllZero
+  pub p11 : read_snapshot 1 cosine_zero ≡ Err VectorAllZero
   pub p12 : row_word (record { id = record { 0 = 7 }; deleted = false; from_log = true; caption_length = 2; at = 64 }) ≡ 4611967493404098624
   -- the worked example: keep 78, tail 3, offsets 25 and 64, and the tables after
   pub example : recover 4096 example_snapshot example_log ≡ recovered example_recovered

@@ -1,10 +1,10 @@
 -- The writer never stands in the way: of a state that recovery gave, with the sources it was given for, it refuses nothing but 34 and
 -- 32, whether it is lent the log that was read or a longer one that begins with it; and the full file is demand 3's.
-use Rattle.std.specs.Prelude.{ℕ, ◌≡◌, List, ◌++◌, ltb}
+use Rattle.std.specs.Prelude.{ℕ, ◌≡◌, List, ◌++◌, ltb, Ok}
 use Rattle.fields.specs.Fields.{Bytes}
 use Rattle.config.specs.Limits.{max_snapshot_bytes}
 use Rattle.rows.specs.Lent.{rows_lent}
-use Rattle.refusal.specs.Refusal.{answer, refuse, ◌>>=◌}
+use Rattle.refusal.specs.Refusal.{refuse, ◌>>=◌}
 use Rattle.refusal.specs.declared.Refusal.TheVariants.{TooLarge, OutputTooShort}
 use Rattle.layout.specs.declared.Extent.{Extent}
 use Rattle.layout.specs.declared.Extent.TheVariants.{Full}
@@ -24,4 +24,4 @@ pub record WriterTakes : Type 0 where
       → write Full r.config r.state.sequence (recover_tables words active (recovered r)).rows (record_count r) snapshot (log ++ more) room
       ≡ (refuse TooLarge (ltb max_snapshot_bytes (file_length r.config.dimensions (rows_of r)))
       >>= λ _. refuse OutputTooShort (ltb room (file_length r.config.dimensions (rows_of r)))
-      >>= λ _. answer (full_snapshot snapshot log r))
+      >>= λ _. Ok (full_snapshot snapshot log r))

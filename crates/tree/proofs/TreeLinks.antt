@@ -11,7 +11,7 @@ use Rattle.digital_tree.specs.Look.{Inside}
 use Rattle.digital_tree.proofs.PutLaws.{Same, yes, no, same}
 use Rattle.tree.specs.declared.Tree.{Tree}
 use Rattle.links.specs.Links.{link_in, left_of, right_of}
-use Rattle.tree.specs.Grown.{in_tree, link_of}
+use Rattle.tree.specs.Grown.{in_tree, link_of, Grown}
 use Rattle.links.proofs.LinkLaws.{Cell, cell, top, unused, left, right, link_top, link_left, link_right}
 
 pub inside_zero : (low high : ℕ) → Inside low high 0
@@ -100,3 +100,11 @@ links_same root n words entries words' entries' f g z k h = go (cell z)
 -- no cell of a tree is cell 1
 pub not_one : (low high z : ℕ) → Inside low high z → z ≡ 1 → ⊥
 not_one low high z i e = let h = i.above (omega arith) in omega arith
+
+-- what is read is the tree's link, and lies in the table
+module _ (t : Tree) (words entries : List ℕ) (g : Grown t words entries) (z : ℕ) (i : Inside t.sorted t.count z) (u : ℕ) (is : u ≡ link_in t.root words entries z) where
+  pub read_is : link_of t words entries z ≡ u
+  read_is = link_in_lem t words entries z i ∙ sym is
+
+  pub read_in_table : u ≤ t.count
+  read_in_table = subst (λ (x : ℕ). x ≤ t.count) read_is (g.shape.within z)

@@ -34,10 +34,11 @@ const MIXER: u64 = 0x9e37_79b9_7f4a_7c15;
 
 const DEPTH: u32 = 64;
 
+#[tactic(auto, unfolding(digital_tree::specs::Look::mixed_id))]
 fn mixed(id: u64) -> u64
     ensures { result ≡ mixed_id id }
 {
-    rng::wrapping_mul(id, MIXER)
+    id.wrapping_mul(MIXER)
 }
 
 fn bit(key: u64, at: u32) -> usize
@@ -54,8 +55,7 @@ fn search(words: &[u64], entries: &[u32], tree: Tree, id: u64) -> usize
 {
     let key = mixed(id);
     let mut cell: usize = 0;
-    let mut left = DEPTH;
-    while 0 < left {
+    for left in (0..DEPTH).rev() {
         let link = links::link_at(words, entries, tree.root, cell);
         if link == 0 {
             return cell;
@@ -63,7 +63,6 @@ fn search(words: &[u64], entries: &[u32], tree: Tree, id: u64) -> usize
         if words[2 * link - 2] == id {
             return cell;
         }
-        left -= 1;
         cell = 2 * link + bit(key, left);
     }
     cell
@@ -316,6 +315,7 @@ fn take_up(words: &mut [u64], entries: &mut [u32], tree: Tree) -> Tree
 
 // Internal: the table holds `count` rows, and no ID is live twice.
 // What the entries hold is no matter.
+#[tactic(auto, using(crate::proofs::FrontLaws::empty_grown))]
 pub fn begin(words: &mut [u64], entries: &mut [u32], count: usize) -> Tree
     requires count_in_bounds { 2 * count ≤ length words.old }
     requires count_in_bounds_2 { count ≤ length entries.old }
@@ -330,10 +330,8 @@ pub fn begin(words: &mut [u64], entries: &mut [u32], count: usize) -> Tree
         sorted: 0,
         count: 0,
     };
-    let mut taken: usize = 0;
-    while taken < count {
+    for _ in 0..count {
         tree = take_up(words, entries, tree);
-        taken += 1;
     }
     tree
 }
@@ -341,10 +339,8 @@ pub fn begin(words: &mut [u64], entries: &mut [u32], count: usize) -> Tree
 fn clear(words: &mut [u64])
     ensures { words.new ≡ plain_rows words.old }
 {
-    let mut i: usize = 0;
-    while i < words.len() / 2 {
+    for i in 0..words.len() / 2 {
         words[2 * i + 1] = links::plain(words[2 * i + 1]);
-        i += 1;
     }
 }
 

@@ -11,7 +11,8 @@ use lib.Count.{count_trailing_zeros, under}
 use lib.Dec.{ltb, lit<}
 use lib.ListN.{length, take, drop, get_or, length-drop}
 use lib.Seq.{drop-cons, get_or-drop, get_or-take, length-take-le}
-use Rattle.utf8.specs.Steps.{Passes, or_all, or_eight, word_of, half_of, ascii_front}
+use Rattle.utf8.specs.Steps.{Passes, or_all, or_eight, word_of, ascii_front}
+use Rattle.std.specs.Int.{w64, from_le_bytes}
 use Rattle.utf8.proofs.Passing.{passes_on, passes_ascii}
 
 -- ---- eight octets of a list
@@ -202,10 +203,7 @@ module _ (s : List ℕ) (i : ℕ) (h : i + 8 ≤ length s) where
   unfolding or_all
   or_eight_is = rw (eight_is s i h, or_zero_r (get_or s (i + 7) 0))
 
-  pub halves_are : half_of s i + half_of s (i + 4) * 4294967296 ≡ word_of (take 8 (drop i s))
+  pub le_word : from_le_bytes w64 (get_or s i 0 ∷ get_or s (i + 1) 0 ∷ get_or s (i + 2) 0 ∷ get_or s (i + 3) 0 ∷ get_or s (i + 4) 0 ∷ get_or s (i + 5) 0 ∷ get_or s (i + 6) 0 ∷ get_or s (i + 7) 0 ∷ [])
+      ≡ word_of (take 8 (drop i s))
   unfolding word_of
-  halves_are =
-      let a : get_or s (i + 4 + 1) 0 ≡ get_or s (i + 5) 0 = ap (λ (k : ℕ). get_or s k 0) (omega arith) in
-      let b : get_or s (i + 4 + 2) 0 ≡ get_or s (i + 6) 0 = ap (λ (k : ℕ). get_or s k 0) (omega arith) in
-      let c : get_or s (i + 4 + 3) 0 ≡ get_or s (i + 7) 0 = ap (λ (k : ℕ). get_or s k 0) (omega arith) in
-      rw (eight_is s i h) (omega arith)
+  le_word = rw (eight_is s i h) (omega arith)

@@ -1,5 +1,5 @@
 -- What the functions behind `is_utf8` promise each other. Nothing outside this crate cites these.
-use Rattle.std.specs.Prelude.{◌≡◌, cond, List, [], ◌∷◌, ℕ, suc, ◌+◌, ◌*◌, ◌≤◌, eqb, ltb, length, take, drop, get_or}
+use Rattle.std.specs.Prelude.{◌≡◌, cond, List, [], ◌∷◌, ℕ, suc, ◌+◌, ◌*◌, ◌≤◌, eqb, ltb, length, take, drop}
 use Rattle.std.specs.Int.Bits.{bit_or}
 use Rattle.utf8.specs.Utf8.{valid_front}
 
@@ -38,10 +38,6 @@ or_eight s i = or_all (take 8 (drop i s))
 unfoldable pub word_of : List ℕ → ℕ
 word_of [] = 0
 word_of (b ∷ s) = b + 256 * word_of s
-
--- four octets from i on as one number
-abbrev pub half_of : List ℕ → ℕ → ℕ
-half_of s i = get_or s i 0 + get_or s (i + 1) 0 * 256 + get_or s (i + 2) 0 * 65536 + get_or s (i + 3) 0 * 16777216
 
 -- how many octets at the front are ASCII
 unfoldable pub ascii_front : List ℕ → ℕ

@@ -5,9 +5,10 @@
 ghost use Rattle.std.specs.Prelude.{◌≡◌, ◌+◌, ◌<◌, ◌≤◌, length, get_or, take, drop};
 ghost use Rattle.std.specs.Int.Bits.{bit_or};
 ghost use Rattle.utf8.specs.Utf8.{Range, char_length, valid_front, is_utf8};
-ghost use Rattle.utf8.specs.Steps.{Passes, bound_of, or_all, or_eight, word_of, half_of, ascii_front};
+ghost use Rattle.utf8.specs.Steps.{Passes, bound_of, or_all, or_eight, word_of, ascii_front};
 
 // Whether s is UTF-8.
+#[tactic(auto, unfolding(crate::specs::Utf8::is_utf8))]
 pub fn is_utf8(s: &[u8]) -> bool
     ensures { result ≡ is_utf8 s.now }
 {
@@ -15,6 +16,7 @@ pub fn is_utf8(s: &[u8]) -> bool
 }
 
 // The length of the longest front of s that is whole characters.
+#[tactic(auto, using(crate::proofs::Passing::passes_none, crate::proofs::Passing::passes_on, crate::proofs::Passing::passes_next, crate::proofs::Passing::ends_at, crate::proofs::Passing::ends_all))]
 pub fn valid_front(s: &[u8]) -> usize
     ensures { result ≡ valid_front s.now }
 {
@@ -178,6 +180,7 @@ fn after_threes(s: &[u8], at: usize) -> usize
 }
 
 // Passes ASCII from `at` on, where there is some. A single byte of it, as a space between two words, has a test of its own.
+#[tactic(auto, using(crate::proofs::Passing::passes_on, crate::proofs::Passing::passes_byte))]
 fn after_ascii(s: &[u8], at: usize) -> usize
     requires at_in_bounds { at < length s.now }
     requires at_bound { get_or s.now at 0 < 128 }
@@ -193,6 +196,7 @@ fn after_ascii(s: &[u8], at: usize) -> usize
 }
 
 // By words of eight bytes, and after a word that is all ASCII by blocks of 32.
+#[tactic(auto, using(crate::proofs::Passing::passes_on, crate::proofs::Words::word_passes, crate::proofs::Words::word_all_passes))]
 fn after_words(s: &[u8], at: usize) -> usize
     requires { at ≤ length s.now }
     ensures { Passes s.now at result }
@@ -208,6 +212,7 @@ fn after_words(s: &[u8], at: usize) -> usize
     after_bytes(s, i)
 }
 
+#[tactic(auto, using(crate::proofs::Passing::passes_on, crate::proofs::Words::or_passes))]
 fn after_blocks(s: &[u8], at: usize) -> usize
     requires { at ≤ length s.now }
     ensures { Passes s.now at result }
@@ -222,6 +227,8 @@ fn after_blocks(s: &[u8], at: usize) -> usize
     i
 }
 
+// A `for` over the range makes another loop of `valid_front`'s, and Greek then takes a third more time.
+#[tactic(auto, using(crate::proofs::Passing::passes_on, crate::proofs::Passing::passes_byte))]
 fn after_bytes(s: &[u8], at: usize) -> usize
     requires { at ≤ length s.now }
     ensures { Passes s.now at result }
@@ -244,6 +251,7 @@ fn block(s: &[u8], i: usize) -> u8
     eight(s, i) | (eight(s, i + 8) | (eight(s, i + 16) | eight(s, i + 24)))
 }
 
+#[tactic(auto, using(crate::proofs::Words::or_eight_is))]
 fn eight(s: &[u8], i: usize) -> u8
     requires { i + 8 ≤ length s.now }
     ensures { result ≡ or_eight s.now i }
@@ -252,35 +260,27 @@ fn eight(s: &[u8], i: usize) -> u8
 }
 
 // How many of the eight bytes from i on are ASCII, up to the first that is not: the trailing zeros of their high bits.
+#[tactic(auto, using(crate::proofs::Words::word_is))]
 fn ascii_in_word(s: &[u8], i: usize) -> usize
     requires { i + 8 ≤ length s.now }
     ensures { result ≡ ascii_front (take 8 (drop i s.now)) }
 {
-    count(u64::trailing_zeros(word(s, i) & 0x8080808080808080) / 8)
+    (u64::trailing_zeros(word(s, i) & 0x8080808080808080) / 8) as usize
 }
 
+#[tactic(auto, using(crate::proofs::Words::le_word))]
 fn word(s: &[u8], i: usize) -> u64
     requires { i + 8 ≤ length s.now }
     ensures { result ≡ word_of (take 8 (drop i s.now)) }
 {
-    half(s, i) + half(s, i + 4) * 4294967296
-}
-
-fn half(s: &[u8], i: usize) -> u64
-    requires { i + 4 ≤ length s.now }
-    ensures { (result ≡ half_of s.now i) × (result < 4294967296) }
-{
-    wide(s[i]) + wide(s[i + 1]) * 256 + wide(s[i + 2]) * 65536 + wide(s[i + 3]) * 16777216
-}
-
-fn wide(x: u8) -> u64
-    ensures { (result ≡ x) × (result < 256) }
-{
-    x as u64
-}
-
-fn count(n: u32) -> usize
-    ensures { result ≡ n }
-{
-    n as usize
+    u64::from_le_bytes([
+        s[i],
+        s[i + 1],
+        s[i + 2],
+        s[i + 3],
+        s[i + 4],
+        s[i + 5],
+        s[i + 6],
+        s[i + 7],
+    ])
 }

@@ -57,27 +57,21 @@ fn line_end(s: &[u8], at: usize) -> usize
     requires { at < length s.now }
     ensures { (at ≤ result) × (result ≤ length s.now) }
 {
-    let mut i = at;
-    while i < s.len() {
+    for i in at..s.len() {
         if s[i] == b'\n' {
             return i;
         }
-        i += 1;
     }
-    i
+    s.len()
 }
 
 // The bytes that s has in hexadecimal, as many as there is room for.
 fn decode(s: &[u8], out: &mut [u8]) -> usize
     ensures { result ≤ length out.old }
 {
-    let mut n: usize = 0;
-    while n < out.len() {
-        if s.len() / 2 <= n {
-            return n;
-        }
-        out[n] = digit(s[2 * n]) * 16 + digit(s[2 * n + 1]);
-        n += 1;
+    let n = out.len().min(s.len() / 2);
+    for i in 0..n {
+        out[i] = digit(s[2 * i]) * 16 + digit(s[2 * i + 1]);
     }
     n
 }

@@ -1,4 +1,5 @@
--- What a view's steps say: a row that is named is small, the part that is given lies in its source; and the ways back from the code's answers.
+-- What a view's steps say: a row that is named is small, the part that is given lies in its source.
+use Rattle.std.specs.Prelude.{Ok, Err}
 use Prim.Native.Nat.{ℕ, ◌≤◌}
 use native.Mathlib.Omega.{arith}
 use mathlib.Core.Path.{◌≡◌, refl, subst}
@@ -10,40 +11,19 @@ use Rattle.config.specs.Limits.{min_dimensions, max_dimensions}
 use Rattle.rows.specs.Lent.{rows_lent_plain}
 use Rattle.rows.specs.Rows.{row_at, RowFits}
 use Rattle.rows.specs.declared.Row.{Row}
-use Rattle.refusal.specs.Refusal.{Result, answer, refused, ◌>>=◌, refuse}
+use Rattle.refusal.specs.Refusal.{Answer, ◌>>=◌, refuse}
 use Rattle.refusal.specs.declared.Refusal.TheVariants.{WrongDimensions, NoSuchNode, RowDoesNotFit}
 use Rattle.refusal.proofs.Results.{went, answer_injective}
-use Rattle.refusal.proofs.Inverses.{told_is}
 use Rattle.sources.specs.Sources.{outside, Inside, shown_part}
 use Rattle.sources.specs.declared.Shown.{Shown}
-use Rattle.sources.specs.declared.Part.{Part}
 use Rattle.meaning.specs.Views.{row_for, part_for, view, given}
 use Rattle.meaning.proofs.TableSteps.{fits_at}
-use Rattle.views.specs.declared.Named.{Named}
-use Rattle.views.specs.declared.Named.TheVariants as Nameds
-use Rattle.views.specs.declared.Viewed.{Viewed}
-use Rattle.views.specs.declared.Viewed.TheVariants as Vieweds
-use Rattle.views.specs.Told.{named, viewed}
-
-abbrev pub named_back : Named → Result Row
-named_back (Nameds.Row r) = answer r
-named_back (Nameds.Refused why) = refused why
-
-abbrev pub viewed_back : Viewed → Result Part
-viewed_back (Vieweds.Part p) = answer p
-viewed_back (Vieweds.Refused why) = refused why
-
-pub named_back_lem : (x : Result Row) (b : Named) → b ≡ named x → x ≡ named_back b
-named_back_lem x b e = told_is (λ r. Nameds.Row r) (λ why. Nameds.Refused why) named_back (λ r. refl) (λ why. refl) x e refl
-
-pub viewed_back_lem : (x : Result Part) (b : Viewed) → b ≡ viewed x → x ≡ viewed_back b
-viewed_back_lem x b e = told_is (λ p. Vieweds.Part p) (λ why. Vieweds.Refused why) viewed_back (λ p. refl) (λ why. refl) x e refl
 
 pub record Small (d : ℕ) (row : Row) : Type 0 where
   pub d_small : d ≤ max_dimensions
   pub row_fits : RowFits row
 
-pub row_small : (d : ℕ) (words : List ℕ) (count n : ℕ) (row : Row) → row_for d words count n ≡ answer row → Small d row
+pub row_small : (d : ℕ) (words : List ℕ) (count n : ℕ) (row : Row) → row_for d words count n ≡ Ok row → Small d row
 unfolding row_for
 row_small d words count n row e =
     let w1 = went WrongDimensions (ltb d min_dimensions) _ row e in
@@ -57,7 +37,7 @@ module _ (shown : Shown) (d : ℕ) (snapshot log : List ℕ) where
   unfolding part_for
   part_inside r = by (outside snapshot log (shown_part shown d r)) refl
     where
-      by : (t : Bool) → outside snapshot log (shown_part shown d r) ≡ t → Inside snapshot log (given (refuse RowDoesNotFit t >>= λ _. answer (shown_part shown d r)))
+      by : (t : Bool) → outside snapshot log (shown_part shown d r) ≡ t → Inside snapshot log (given (refuse RowDoesNotFit t >>= λ _. Ok (shown_part shown d r)))
       by true e = omega arith
       by false e = ltb-false _ _ e
 
@@ -65,6 +45,6 @@ module _ (shown : Shown) (d : ℕ) (snapshot log : List ℕ) where
   unfolding view
   given_inside words count n = by (row_for d words count n)
     where
-      by : (x : Result Row) → Inside snapshot log (given (x >>= part_for shown d snapshot log))
-      by (answer r) = part_inside r
-      by (refused why) = omega arith
+      by : (x : Answer Row) → Inside snapshot log (given (x >>= part_for shown d snapshot log))
+      by (Ok r) = part_inside r
+      by (Err why) = omega arith

@@ -24,7 +24,7 @@ use Rattle.meaning.specs.Tables.{rows_from}
 use Rattle.meaning.specs.File.{record_bytes, records_bytes}
 use Rattle.meaning.specs.Writer.{misfit, any_misfit, live_rows, written}
 use Rattle.meaning.proofs.TableSteps.{fits_at, rows_next, rows_over}
-use Rattle.writer.specs.RowsWritten.{Copyable, keeps, row_bytes, rows_bytes, most_of_a_row}
+use Rattle.writer.specs.RowsWritten.{Copyable, keeps, row_bytes, rows_bytes}
 
 -- ---- a row more
 pub written_row : (extent : Extent) (r : Row) (rs : List Row) → written extent (r ∷ rs) ≡ cond (keeps extent r.deleted) (r ∷ written extent rs) (written extent rs)
@@ -65,14 +65,16 @@ module _ (extent : Extent) (d : ℕ) (r : Row) (rs : List Row) where
       by true = refl
       by false = refl
 
--- no row adds more than `most_of_a_row`
-pub at_most_one : (t : Bool) → cond t 1 0 ≤ 1
-at_most_one true = omega arith
-at_most_one false = omega arith
+-- ---- the row of node i, and those from i + 1 on
+module _ (extent : Extent) (d : ℕ) (words : List ℕ) (count i : ℕ) (h : i < count) where
+  pub length_next : length (written extent (rows_from (count - i) i words))
+      ≡ cond (keeps extent (row_at words i).deleted) 1 0 + length (written extent (rows_from (count - (i + 1)) (i + 1) words))
+  length_next = ap (λ (rs : List Row). length (written extent rs)) (rows_next words count i h) ∙ length_row extent d (row_at words i) _
 
-pub at_most : (t : Bool) (d n : ℕ) → d ≤ max_dimensions → n < 32768 → cond t (record_length d n) 0 ≤ most_of_a_row
-at_most true d n h k = omega arith
-at_most false d n h k = omega arith
+  pub size_next : size (row_kind d) (written extent (rows_from (count - i) i words))
+      ≡ cond (keeps extent (row_at words i).deleted) (record_length d (row_at words i).caption_length) 0
+      + size (row_kind d) (written extent (rows_from (count - (i + 1)) (i + 1) words))
+  size_next = ap (λ (rs : List Row). size (row_kind d) (written extent rs)) (rows_next words count i h) ∙ size_row extent d (row_at words i) _
 
 -- ---- behind the last row
 module _ (extent : Extent) (d : ℕ) (words : List ℕ) (count i : ℕ) (h : count ≤ i) where
@@ -104,12 +106,23 @@ module _ (c : Config) (snapshot log : List ℕ) where
   unfolding any_misfit
   any_row r rs = refl
 
-  pub any_none : any_misfit c snapshot log [] ≡ false
-  unfolding any_misfit
-  any_none = refl
-
   pub fit_inside : (r : Row) → misfit c snapshot log r ≡ false → Inside snapshot log (shown_part Caption c.dimensions r)
   fit_inside r e = ltb-false _ _ (first_fits (outside snapshot log (shown_part Caption c.dimensions r)) _ e)
+
+-- the row of node i is the answer if it does not fit, and is passed over if it does; behind the last row every row fits
+module _ (c : Config) (snapshot log words : List ℕ) (count i : ℕ) where
+  pub first_misfits : i < count → misfit c snapshot log (row_at words i) ≡ true → any_misfit c snapshot log (rows_from (count - i) i words) ≡ true
+  unfolding any_misfit
+  first_misfits h e = simp (rows_next words count i h, e)
+
+  pub first_passed : i < count → misfit c snapshot log (row_at words i) ≡ false
+      → any_misfit c snapshot log (rows_from (count - i) i words) ≡ any_misfit c snapshot log (rows_from (count - (i + 1)) (i + 1) words)
+  unfolding any_misfit
+  first_passed h e = simp (rows_next words count i h, e)
+
+  pub none_misfits : count ≤ i → any_misfit c snapshot log (rows_from (count - i) i words) ≡ false
+  unfolding any_misfit
+  none_misfits h = ap (any_misfit c snapshot log) (rows_over words count i h)
 
 module _ (d : ℕ) (snapshot log : List ℕ) (r : Row) (h : Inside snapshot log (shown_part Caption d r)) where
   -- the vector lies before the caption

@@ -3,7 +3,7 @@
 // specs/RowsWritten.antt has what the steps are told and say on the way.
 #![tactic(auto)]
 
-ghost use Rattle.std.specs.Prelude.{◌≡◌, false, not, cond, map, ◌+◌, ◌*◌, ◌≤◌, ◌<◌, eqb, length, take};
+ghost use Rattle.std.specs.Prelude.{◌≡◌, cond, map, ◌+◌, ◌*◌, ◌≤◌, ◌<◌, length, take};
 ghost use Rattle.refusal.specs.Refusal.{written_told};
 ghost use Rattle.crc32.specs.Crc.{crc_of};
 ghost use Rattle.config.specs.Limits.{max_dimensions, max_records};
@@ -17,14 +17,14 @@ ghost use Rattle.rows.specs.Rows.{RowFits};
 ghost use Rattle.sources.specs.Sources.{bytes_of, Inside, shown_part};
 ghost use Rattle.meaning.specs.Records.{seen};
 ghost use Rattle.meaning.specs.Tables.{rows_in};
-ghost use Rattle.meaning.specs.File.{flag_of, record_bytes, header_bytes, file_of};
+ghost use Rattle.meaning.specs.File.{record_bytes, header_bytes, file_of};
 ghost use Rattle.meaning.specs.Writer.{misfit, any_misfit, written, file_of_rows, write_valid};
 ghost use Rattle.meaning.specs.Calls.{write_call, output_after};
 ghost use Rattle.writer.specs.RowsWritten.{Tested, Copyable, keeps, row_bytes, rows_bytes, TotalsOf, most_of_a_row, settings_bytes};
 
 use config::Config;
 use layout::Extent;
-use refusal::{Checked, Refusal, Written};
+use refusal::Refusal;
 use rows::{Node, Row};
 use sources::Shown;
 
@@ -35,15 +35,6 @@ struct Totals {
     bytes: usize,
 }
 
-fn deleted_with(deleted: bool, n: usize) -> bool
-    ensures { result ≡ cond deleted (not (eqb n 0)) false }
-{
-    if deleted {
-        return n != 0;
-    }
-    false
-}
-
 // 31 of one row.
 fn misfits(config: Config, snapshot: &[u8], log: &[u8], row: Row) -> bool
     requires dimensions_le_max_dimensions { config.dimensions ≤ max_dimensions }
@@ -52,27 +43,20 @@ fn misfits(config: Config, snapshot: &[u8], log: &[u8], row: Row) -> bool
 {
     let n = row.caption_length;
     let caption = sources::shown_part(Shown::Caption, config.dimensions, row);
-    if sources::outside(snapshot, log, caption) {
-        return true;
-    }
-    if deleted_with(row.deleted, n) {
-        return true;
-    }
-    config.caption_limit() < n
+    sources::outside(snapshot, log, caption) || row.deleted && n != 0 || config.caption_limit() < n
 }
 
 // 31 of any row below the count, written or not.
+#[tactic(auto, using(crate::proofs::WrittenLaws::first_misfits, crate::proofs::WrittenLaws::first_passed, crate::proofs::WrittenLaws::none_misfits, meaning::proofs::TableSteps::fits_at))]
 fn any_misfits(config: Config, rows: &[u64], count: usize, snapshot: &[u8], log: &[u8]) -> bool
     requires dimensions_le_max_dimensions { config.dimensions ≤ max_dimensions }
     requires count_bound { count ≤ rows_lent_plain rows.now }
     ensures { result ≡ any_misfit config snapshot.now log.now (rows_in count rows.now) }
 {
-    let mut i: usize = 0;
-    while i < count {
+    for i in 0..count {
         if misfits(config, snapshot, log, rows::row_at(rows, Node(i as u32))) {
             return true;
         }
-        i += 1;
     }
     false
 }
@@ -104,6 +88,7 @@ fn counted(totals: Totals, extent: Extent, d: usize, row: Row) -> Totals
     }
 }
 
+#[tactic(auto, using(crate::proofs::WrittenLaws::length_next, crate::proofs::WrittenLaws::size_next, crate::proofs::WrittenLaws::length_none, crate::proofs::WrittenLaws::size_none, meaning::proofs::TableSteps::fits_at))]
 fn written_totals(extent: Extent, d: usize, rows: &[u64], count: usize) -> Totals
     requires d_le_max_dimensions { d ≤ max_dimensions }
     requires count_bound { count ≤ rows_lent_plain rows.now }
@@ -114,10 +99,8 @@ fn written_totals(extent: Extent, d: usize, rows: &[u64], count: usize) -> Total
         records: 0,
         bytes: 0,
     };
-    let mut i: usize = 0;
-    while i < count {
+    for i in 0..count {
         totals = counted(totals, extent, d, rows::row_at(rows, Node(i as u32)));
-        i += 1;
     }
     totals
 }
@@ -148,13 +131,8 @@ fn write_header(config: Config, sequence: u64, records: usize, out: &mut [u8])
     fields::put_u64(out, 44, records as u64);
 }
 
-fn flag(deleted: bool) -> u8
-    ensures { result ≡ flag_of deleted }
-{
-    if deleted { 1 } else { 0 }
-}
-
 // A row's caption or vector, copied to `at`.
+#[tactic(auto, using(fields::proofs::PlacedLaws::placed_copied, fields::proofs::PlacedLaws::placed_front))]
 fn copy_shown<'a>(
     shown: Shown,
     d: usize,
@@ -194,13 +172,14 @@ fn write_record<'a>(
     let vector = at + layout::RECORD_HEAD;
     let length = vector + 4 * d;
     fields::put_u64(out, at, id.0);
-    fields::put_u8(out, at + 8, flag(row.deleted));
+    fields::put_u8(out, at + 8, u8::from(row.deleted));
     copy_shown(Shown::Vector, d, row, snapshot, log, out, vector);
     fields::put_u32(out, length, n as u32);
     copy_shown(Shown::Caption, d, row, snapshot, log, out, length + 4);
     end
 }
 
+#[tactic(auto, using(fields::proofs::PlacedLaws::placed_none, crate::proofs::WrittenLaws::length_record))]
 fn write_row<'a>(
     extent: Extent,
     d: usize,
@@ -222,6 +201,7 @@ fn write_row<'a>(
 }
 
 // The CRC of the header and the records is taken along, a piece when it is written.
+#[tactic(auto, using(crate::proofs::WrittenLaws::first_row, crate::proofs::WrittenLaws::bytes_none, crate::proofs::Stands::sums_placed, fields::proofs::PlacedLaws::placed_behind, fields::proofs::PlacedLaws::placed_none))]
 fn write_records<'a>(
     extent: Extent,
     config: Config,
@@ -238,17 +218,16 @@ fn write_records<'a>(
 {
     let mut sum = pieces::none();
     let mut at: usize = layout::HEADER_LENGTH;
-    let mut i: usize = 0;
-    while i < count {
+    for i in 0..count {
         let row = rows::row_at(rows, Node(i as u32));
         at = write_row(extent, config.dimensions, row, snapshot, log, out, at);
         sum = pieces::behind(sum, out, at);
-        i += 1;
     }
     pieces::finish(sum, out, at)
 }
 
 // The output has room.
+#[tactic(auto, using(crate::proofs::WrittenLaws::length_rows_bytes))]
 fn write_file<'a>(
     extent: Extent,
     config: Config,
@@ -271,6 +250,7 @@ fn write_file<'a>(
 }
 
 // 34, then 32.
+#[tactic(auto, using(crate::proofs::FileLaws::length_file), unfolding(meaning::specs::Writer::file_of_rows))]
 fn write_fitted<'a>(
     extent: Extent,
     config: Config,
@@ -280,7 +260,7 @@ fn write_fitted<'a>(
     snapshot: &'a [u8],
     log: &'a [u8],
     out: &mut [u8],
-) -> Written
+) -> Result<usize, Refusal>
     requires { Tested config rows.now count snapshot.now log.now }
     ensures value { result ≡ written_told (file_of_rows config sequence snapshot.now log.now (length out.old) (written extent (rows_in count rows.now))) }
     ensures out_after { out.new ≡ output_after out.old (file_of_rows config sequence snapshot.now log.now (length out.old) (written extent (rows_in count rows.now))) }
@@ -289,18 +269,19 @@ fn write_fitted<'a>(
     let totals = written_totals(extent, d, rows, count);
     let n = layout::HEADER_LENGTH + totals.bytes + layout::CRC_LENGTH;
     if Config::MAX_SNAPSHOT_BYTES < n {
-        return Written::Refused(Refusal::TooLarge);
+        return Err(Refusal::TooLarge);
     }
     if out.len() < n {
-        return Written::Refused(Refusal::OutputTooShort);
+        return Err(Refusal::OutputTooShort);
     }
     write_file(
         extent, config, sequence, totals, rows, count, snapshot, log, out,
     );
-    Written::Bytes(n)
+    Ok(n)
 }
 
 // 30, then 31.
+#[tactic(auto, unfolding(meaning::specs::Writer::write_valid, meaning::specs::Writer::state_rows))]
 fn write_valid<'a>(
     extent: Extent,
     config: Config,
@@ -310,20 +291,21 @@ fn write_valid<'a>(
     snapshot: &'a [u8],
     log: &'a [u8],
     out: &mut [u8],
-) -> Written
+) -> Result<usize, Refusal>
     requires { Bounded config }
     ensures value { result ≡ written_told (write_valid extent config sequence rows.now count snapshot.now log.now (length out.old)) }
     ensures out_after { out.new ≡ output_after out.old (write_valid extent config sequence rows.now count snapshot.now log.now (length out.old)) }
 {
     if rows::rows_lent_plain(rows) < count {
-        return Written::Refused(Refusal::NoSuchNode);
+        return Err(Refusal::NoSuchNode);
     }
     if any_misfits(config, rows, count, snapshot, log) {
-        return Written::Refused(Refusal::RowDoesNotFit);
+        return Err(Refusal::RowDoesNotFit);
     }
     write_fitted(extent, config, sequence, rows, count, snapshot, log, out)
 }
 
+#[tactic(auto, using(config::proofs::Laws::bounded_of_valid), unfolding(meaning::specs::Writer::write))]
 fn write_rows<'a>(
     extent: Extent,
     config: Config,
@@ -333,14 +315,12 @@ fn write_rows<'a>(
     snapshot: &'a [u8],
     log: &'a [u8],
     out: &mut [u8],
-) -> Written
+) -> Result<usize, Refusal>
     ensures value { result ≡ written_told (write_call extent config sequence rows.now count snapshot.now log.now out.old) }
     ensures out_after { out.new ≡ output_after out.old (write_call extent config sequence rows.now count snapshot.now log.now out.old) }
 {
-    match config.validate() {
-        Checked::Passed => write_valid(extent, config, sequence, rows, count, snapshot, log, out),
-        Checked::Refused(why) => Written::Refused(why),
-    }
+    config.validate()?;
+    write_valid(extent, config, sequence, rows, count, snapshot, log, out)
 }
 
 // Every row below the count, deleted ones too.
@@ -352,7 +332,7 @@ pub fn write_snapshot<'a>(
     snapshot: &'a [u8],
     log: &'a [u8],
     out: &mut [u8],
-) -> Written
+) -> Result<usize, Refusal>
     ensures value { result ≡ written_told (write_call Full config sequence rows.now count snapshot.now log.now out.old) }
     ensures out_after { out.new ≡ output_after out.old (write_call Full config sequence rows.now count snapshot.now log.now out.old) }
 {
@@ -377,7 +357,7 @@ pub fn write_compacted_snapshot<'a>(
     snapshot: &'a [u8],
     log: &'a [u8],
     out: &mut [u8],
-) -> Written
+) -> Result<usize, Refusal>
     ensures value { result ≡ written_told (write_call Compacted config sequence rows.now count snapshot.now log.now out.old) }
     ensures out_after { out.new ≡ output_after out.old (write_call Compacted config sequence rows.now count snapshot.now log.now out.old) }
 {

@@ -1,13 +1,10 @@
--- The invariant: gathering the rest from here gives what gathering all does. The measure is what is left of d.
+-- The invariant: gathering the rest from here gives what gathering all does.
 use mathlib.Core.Path.{◌≡◌}
-use Prim.Native.Nat.{◌≤◌, ◌+◌, ◌-◌, ◌*◌}
+use Prim.Native.Nat.{◌+◌, ◌-◌, ◌*◌}
 use lib.ListN.{drop}
 use Rattle.coordinates.specs.Coordinates.{patterns}
 use Rattle.coordinates.specs.Largest.{largest}
 use Rattle.coordinates.proofs.largest_at.Given as goal
 
 abbrev pub invariant-loop-i : goal.invariant-loop-i
-invariant-loop-i l = (l.i ≤ l.d) × (largest l.most (patterns (l.d - l.i) (drop (l.at + 4 * l.i) l.s)) ≡ largest 0 (patterns l.d (drop l.at l.s)))
-
-abbrev pub decreases-loop-i : goal.decreases-loop-i
-decreases-loop-i l = l.d - l.i
+invariant-loop-i l = largest l.most (patterns (l.d - l.i) (drop (l.at + 4 * l.i) l.s)) ≡ largest 0 (patterns l.d (drop l.at l.s))

@@ -1,26 +1,31 @@
--- `elimination::clear` meets its contract. The loop's invariant: j zero bytes stand behind the window.
+-- `elimination::clear` meets its contract: the part behind the window comes back as zeros.
 -- Assumes nothing.
-use mathlib.Core.Path.{refl, ◌∙◌}
-use Prim.Native.Nat.{◌+◌}
+-- `same_len_mid`, `take_put` and `mid_len` are the borrow checker's laws of a part that was lent and came back.
+use mathlib.Core.Path.{◌≡◌, ap, ◌∙◌}
+use mathlib.Core.List.{List, ◌++◌}
+use Prim.Native.Nat.{ℕ, ◌+◌, ◌-◌}
 use native.Mathlib.Omega.{arith}
-use lib.Seq.{take-set-le}
-use Rattle.elimination.proofs.Places.{filled_next}
-use borrow.Author.Rules.{rules}
+use borrow.Rule.Slice.PartMut.{mid_len, post_of, same_len_mid, take_put}
+use lib.ListN.{length, get_or, take, replicate, length-replicate, get_or-append, get_or-replicate}
+use lib.Seq.{length-take-le}
+use Rattle.std.proofs.lemmas.List.{get_or-append_right}
 use Rattle.elimination.proofs.clear.Goals as goal
-
-pub loop-j-init : goal.loop-j-init
-loop-j-init c = (search rules, c.requires, refl, λ k h. absurd (omega arith))
-
-pub loop-j-preserved : goal.loop-j-preserved
-loop-j-preserved c =
-    let l = c.loop-j in
-    (search rules, search rules, take-set-le 2400 l.v (2400 + l.j) 0 (omega arith) ∙ l.invariant.2, filled_next (λ k. 2400 + k) (λ k. 0) l.j 0 l.v (omega arith) (λ k h e. omega arith) refl l.invariant.3)
 
 pub returns : goal.returns
 returns c =
-    let l = c.loop-j in
+    let v = c.args.v.now in
+    let zeros = c.fill.new.self in
+    let long = mid_len 2400 4800 v (omega (arith, c.requires)) in
+    let is : zeros ≡ replicate 2400 0 = c.fill.ensures.after (λ y e. e) ∙ ap (λ (n : ℕ). replicate n 0) long in
+    let as_long = ap length is ∙ length-replicate {A = ℕ} 2400 0 in
     record {
-      v_len = l.invariant.1;
-      v_unchanged = l.invariant.2;
-      clear = λ k h. l.invariant.3 k (omega arith);
+      v_len = same_len_mid 2400 2400 v zeros c.fill.ensures.len ∙ c.requires;
+      v_unchanged = take_put 2400 2400 v zeros (omega (arith, c.requires));
+      clear = λ k h.
+          let e : 2400 + k - 2400 ≡ k = omega arith in
+          get_or-append_right (take 2400 v) _ 2400 (2400 + k) 0 (length-take-le 2400 v (omega (arith, c.requires))) (omega arith)
+          ∙ ap (λ (i : ℕ). get_or (zeros ++ post_of 2400 2400 v) i 0) e
+          ∙ get_or-append zeros (post_of 2400 2400 v) 0 k (omega (arith, as_long))
+          ∙ ap (λ (l : List ℕ). get_or l k 0) is
+          ∙ get_or-replicate {A = ℕ} 2400 k 0 0 h;
     }

@@ -1,30 +1,17 @@
--- `elimination::keep` meets its contract. The loop's invariant: j bytes are moved.
+-- `elimination::keep` meets its contract: what is copied to the front is the window n places on.
 -- Assumes nothing.
-use mathlib.Core.Path.{◌≡◌}
-use Prim.Native.Nat.{◌+◌, ◌≤◌}
+use mathlib.Core.Path.{◌≡◌, ap, ◌∙◌}
+use Prim.Native.Nat.{◌+◌, ◌-◌}
 use native.Mathlib.Omega.{arith}
-use lib.ListN.{length}
-use Rattle.elimination.proofs.Places.{Moved, moved_none, moved_next, moved_all}
-use borrow.Author.Rules.{rules}
+use lib.ListN.{take, drop, length-drop}
+use lib.Seq.{paste}
+use Rattle.std.proofs.lemmas.List.Edits.{take-paste}
 use Rattle.elimination.proofs.keep.Goals as goal
 
-pub loop-j-init : goal.loop-j-init
-loop-j-init c = (search rules, c.requires.v_len, moved_none c.args.n c.args.v.now)
-
-pub loop-j-preserved : goal.loop-j-preserved
-loop-j-preserved c =
-    let l = c.loop-j in
-    let a = c.args in
-    (search rules, search rules, moved_next a.n l.j a.v.now l.v (omega arith) l.invariant.2)
-
-pub returns : goal.returns
-returns c =
-    let l = c.loop-j in
+pub returns-clause-v_after : goal.returns-clause-v_after
+returns-clause-v_after c =
     let v = c.args.v.now in
-    let e : l.j ≡ 2400 = omega arith in
-    let all : Moved c.args.n 2400 v l.v = rw e at l.invariant.2 in
-    let long : c.args.n + 2400 ≤ length v = omega (arith, c.requires.v_len) in
-    record {
-      v_len_2 = l.invariant.1;
-      v_after = moved_all c.args.n 2400 v l.v (omega arith) long all;
-    }
+    let n = c.args.n in
+    let whole : n + 2400 - n ≡ 2400 = omega arith in
+    ap (take 2400) (c.copy_within.ensures.after ∙ ap (paste v 0 (drop n v)) whole)
+    ∙ take-paste v 0 (drop n v) 2400 (omega arith) (omega (arith, length-drop n v, c.requires.v_len))

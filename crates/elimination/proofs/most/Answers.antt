@@ -5,16 +5,7 @@ use Prim.Native.Nat.{ℕ, ◌+◌, ◌-◌}
 use native.Mathlib.Omega.{arith}
 use lib.ListN.{length, drop}
 use Rattle.elimination.specs.Elimination.{Stands}
-use borrow.Author.Rules.{rules}
 use Rattle.elimination.proofs.most.Goals as goal
-
-pub loop-at-init : goal.loop-at-init
-loop-at-init c = (search rules, search rules, c.requires.v_len, λ step r x st. st)
-
-pub loop-at-preserved : goal.loop-at-preserved
-loop-at-preserved c =
-    let l = c.loop-at in
-    (search rules, search rules, c.onward.ensures.v_len_2, λ step r x st. c.onward.ensures.keeps step r x (l.invariant.3 step r x st))
 
 pub returns : goal.returns
 returns c =

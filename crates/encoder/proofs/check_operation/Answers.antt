@@ -1,6 +1,6 @@
 -- By the tag's bit.
 use mathlib.Core.Path.{sym, ap, subst, ◌∙◌}
-use borrow.Author.Tests.{eq-eqb, ne_eqb}
+use borrow.Author.Tests.{eq-eqb}
 use Rattle.fields.proofs.Numbers.{length_bytes}
 use Rattle.rows.specs.Rows.{OperationFits}
 use Rattle.rows.proofs.RowLaws.{operation_of_fits}
@@ -15,19 +15,13 @@ check_put-requires-clause-operation_fits c =
     let is = c.requires.o_value in
     subst OperationFits (sym is) (operation_of_fits c.args.o.id.0 c.args.word)
 
-pub returns-then-put : goal.returns-then-put
-returns-then-put c =
+pub returns-then-o : goal.returns-then-o
+returns-then-o c =
     let a = c.args in
-    c.check_put.ensures ∙ ap (size_told tagged_length) (sym (put_read a.config a.coordinates.now a.captions.now a.o a.word c.requires.o_value c.if-put.true))
-
-pub returns-then-word-ne0 : goal.returns-then-word-ne0
-unfolding encode_delete
-returns-then-word-ne0 c =
-    let a = c.args in
-    sym (ap (size_told tagged_length) (delete_read a.config a.coordinates.now a.captions.now a.o a.word c.requires.o_value c.if-put.false) ∙ simp (ne_eqb _ _ c.if-word-ne0.true))
+    c.check_put.ensures ∙ ap (size_told tagged_length) (sym (put_read a.config a.coordinates.now a.captions.now a.o a.word c.requires.o_value c.if-o.true))
 
 pub returns : goal.returns
 unfolding encode_delete
 returns c =
     let a = c.args in
-    sym (ap (size_told tagged_length) (delete_read a.config a.coordinates.now a.captions.now a.o a.word c.requires.o_value c.if-put.false) ∙ simp (eq-eqb _ _ c.if-word-ne0.false, length_bytes))
+    sym (ap (size_told tagged_length) (delete_read a.config a.coordinates.now a.captions.now a.o a.word c.requires.o_value c.if-o.false) ∙ simp (eq-eqb _ _ c.if-word-ne0.false, length_bytes))

@@ -9,9 +9,8 @@ use Rattle.config.specs.Settings.{is_cosine}
 use Rattle.config.specs.declared.Config.{Config}
 use Rattle.coordinates.specs.Coordinates.{vector_of, coordinate_bytes}
 use Rattle.config.specs.Limits.{max_metadata}
-use Rattle.refusal.specs.Refusal.{checked, size_told}
-use Rattle.refusal.specs.declared.Checked.{Checked}
-use Rattle.refusal.proofs.Inverses.{checked_is}
+use Rattle.refusal.specs.Refusal.{size_told, Answer}
+use Rattle.refusal.proofs.Inverses.{came_to, handed_on}
 use Rattle.meaning.specs.Item.{coordinates}
 use Rattle.encoder.specs.Requests.{tagged_length, caption_told}
 use Rattle.encoder.proofs.CoordinateLaws.{vector_again}
@@ -19,12 +18,12 @@ use Rattle.encoder.proofs.OperationLaws.{put_caption, put_vector}
 use Rattle.encoder.proofs.check_put.Goals as goal
 
 -- what the test of the coordinates' bits says of the vector that they are
-vector_told : (g : Config) (coords : List ℕ) (cosine : Bool) (t : Checked) → length coords ≡ g.dimensions → ((k : ℕ) → get_or coords k 0 < 4294967296)
-    → cosine ≡ is_cosine g.metric → t ≡ checked (vector_of cosine coords) → t ≡ checked (coordinates g (coordinate_bytes coords))
-vector_told g coords cosine t size small is e = e ∙ ap (λ (b : Bool). checked (vector_of b coords)) is ∙ ap checked (sym (vector_again g coords size small))
+vector_told : (g : Config) (coords : List ℕ) (cosine : Bool) (t : Answer (Unit {0})) → length coords ≡ g.dimensions → ((k : ℕ) → get_or coords k 0 < 4294967296)
+    → cosine ≡ is_cosine g.metric → t ≡ vector_of cosine coords → t ≡ coordinates g (coordinate_bytes coords)
+vector_told g coords cosine t size small is e = e ∙ ap (λ (b : Bool). vector_of b coords) is ∙ sym (vector_again g coords size small)
 
-pub returns-in-Passed : goal.returns-in-Passed
-returns-in-Passed c =
+pub returns : goal.returns
+returns c =
     let a = c.args in
     let coords = a.coordinates.now in
     let n = a.o.caption_length in
@@ -33,13 +32,14 @@ returns-in-Passed c =
     let vector = vector_told a.config coords _ _ c.requires.coordinates_len (λ k. (c.type_inv.coordinates k).fits) c.is_cosine.ensures c.check_bits.ensures in
     let q : start + n - start ≡ n = omega arith in
     c.check_caption.ensures ∙ ap (λ (k : ℕ). caption_told (length coords) (take k (drop start a.captions.now))) q
-    ∙ sym (put_caption a.config coords a.captions.now a.o.id.0 n start short c.if-captions-end.false (checked_is _ vector c.in-Passed.is))
+    ∙ sym (put_caption a.config coords a.captions.now a.o.id.0 n start short c.if-captions-end.false (came_to _ vector c.in_ok-check_bits.was))
 
-pub returns-in-Refused : goal.returns-in-Refused
-returns-in-Refused c =
+pub returns-in_err-check_bits : goal.returns-in_err-check_bits
+returns-in_err-check_bits c =
     let a = c.args in
     let coords = a.coordinates.now in
     let short : a.o.caption_length ≤ max_metadata = omega (arith, c.caption_limit.ensures, c.if-caption_limit-n.false) in
     let vector = vector_told a.config coords _ _ c.requires.coordinates_len (λ k. (c.type_inv.coordinates k).fits) c.is_cosine.ensures c.check_bits.ensures in
-    sym (ap (size_told tagged_length) (put_vector a.config coords a.captions.now a.o.id.0 a.o.caption_length a.o.at c.in-Refused.r
-    short c.if-captions-end.false (checked_is _ vector c.in-Refused.is)))
+    handed_on _ _ c.from_residual.ensures
+    ∙ sym (ap (size_told tagged_length) (put_vector a.config coords a.captions.now a.o.id.0 a.o.caption_length a.o.at _
+    short c.if-captions-end.false (came_to _ vector c.in_err-check_bits.was)))

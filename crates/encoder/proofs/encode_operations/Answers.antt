@@ -11,6 +11,7 @@ use Rattle.config.specs.Limits.{max_dimensions, max_batch_operations}
 use Rattle.frames.proofs.Frames.{sealed_payload}
 use Rattle.refusal.specs.declared.Refusal.TheVariants.{WrongLength, OutputTooShort, RequestMalformed}
 use Rattle.refusal.proofs.Results.{sized_not}
+use Rattle.refusal.proofs.Inverses.{handed_on}
 use Rattle.meaning.specs.Encoder.{asked, put_count, tagged_bytes, payload_bytes}
 use Rattle.encoder.specs.Requests.{head_length, tagged_of}
 use Rattle.encoder.proofs.RequestLaws.{counting, wrong_coordinates, wrong_operation, sealed_long, sealed_short, sealed_good, ready, tells_refused, tells_sealed}
@@ -38,14 +39,14 @@ check_operations-requires-clause-operations_len_bound c = (counting c.args.shape
 enough : (d n puts : ℕ) (words : List ℕ) → puts ≡ put_count (asked words) → n ≡ d * puts → n ≡ d * put_count (asked words)
 enough d n puts words p e = e ∙ ap (λ (m : ℕ). d * m) p
 
-pub returns-in-Refused : goal.returns-in-Refused
-returns-in-Refused c =
+pub returns-in_err-n : goal.returns-in_err-n
+returns-in_err-n c =
     let a = c.args in
     let o = a.out.now in
     let e = enough a.config.dimensions _ _ a.operations.now c.put_count-puts.ensures.value c.if-coordinates-d.false in
-    let t = tells_refused _ o c.in-Refused.r (wrong_operation a.shape a.config a.sequence a.operations.now a.coordinates.now a.captions.now (length o) e c.in-Refused.r
-    (sized_not (λ es. length (tagged_bytes es)) _ c.in-Refused.r (sym c.check_operations.ensures ∙ c.in-Refused.is))) in
-    record { value = t.0; out_after = t.1 }
+    let t = tells_refused _ o _ (wrong_operation a.shape a.config a.sequence a.operations.now a.coordinates.now a.captions.now (length o) e _
+    (sized_not (λ es. length (tagged_bytes es)) _ _ (sym c.check_operations.ensures ∙ c.in_err-n.was))) in
+    record { value = handed_on _ _ c.from_residual.ensures ∙ t.0; out_after = t.1 }
 
 pub returns-then-before-n : goal.returns-then-before-n
 returns-then-before-n c =
@@ -53,9 +54,9 @@ returns-then-before-n c =
     let o = a.out.now in
     let B = payload_bytes a.shape a.sequence (tagged_of a.config a.operations.now a.coordinates.now a.captions.now) in
     let e = enough a.config.dimensions _ _ a.operations.now c.put_count-puts.ensures.value c.if-coordinates-d.false in
-    let x = ready a.shape a.config a.sequence a.operations.now a.coordinates.now a.captions.now (length o) c.in-Length.n
-    c.requires.dimensions_le_max_dimensions c.requires.operations_value e (sym c.check_operations.ensures ∙ c.in-Length.is) in
-    let long = sealed_long (length o) B (head_length a.shape + c.in-Length.n) x.size (omega (arith, c.head-before.ensures, c.if-before-n.true)) in
+    let x = ready a.shape a.config a.sequence a.operations.now a.coordinates.now a.captions.now (length o) c.in_ok-n.n
+    c.requires.dimensions_le_max_dimensions c.requires.operations_value e (sym c.check_operations.ensures ∙ c.in_ok-n.was) in
+    let long = sealed_long (length o) B (head_length a.shape + c.in_ok-n.n) x.size (omega (arith, c.head-before.ensures, c.if-before-n.true)) in
     let t = tells_refused _ o WrongLength (x.sealed_is ∙ long) in
     record { value = t.0; out_after = t.1 }
 
@@ -66,9 +67,9 @@ returns-then-out-payload c =
     let B = payload_bytes a.shape a.sequence (tagged_of a.config a.operations.now a.coordinates.now a.captions.now) in
     let h = c.head-before.ensures in
     let e = enough a.config.dimensions _ _ a.operations.now c.put_count-puts.ensures.value c.if-coordinates-d.false in
-    let x = ready a.shape a.config a.sequence a.operations.now a.coordinates.now a.captions.now (length o) c.in-Length.n
-    c.requires.dimensions_le_max_dimensions c.requires.operations_value e (sym c.check_operations.ensures ∙ c.in-Length.is) in
-    let short = sealed_short (length o) B (head_length a.shape + c.in-Length.n) x.size (omega (arith, h, c.if-before-n.false)) (omega (arith, h, c.if-out-payload.true)) in
+    let x = ready a.shape a.config a.sequence a.operations.now a.coordinates.now a.captions.now (length o) c.in_ok-n.n
+    c.requires.dimensions_le_max_dimensions c.requires.operations_value e (sym c.check_operations.ensures ∙ c.in_ok-n.was) in
+    let short = sealed_short (length o) B (head_length a.shape + c.in_ok-n.n) x.size (omega (arith, h, c.if-before-n.false)) (omega (arith, h, c.if-out-payload.true)) in
     let t = tells_refused _ o OutputTooShort (x.sealed_is ∙ short) in
     record { value = t.0; out_after = t.1 }
 
@@ -77,8 +78,8 @@ write_payload-requires-clause-captions_in_bounds c =
     let a = c.args in
     let o = a.out.now in
     let e = enough a.config.dimensions _ _ a.operations.now c.put_count-puts.ensures.value c.if-coordinates-d.false in
-    let x = ready a.shape a.config a.sequence a.operations.now a.coordinates.now a.captions.now (length o) c.in-Length.n
-    c.requires.dimensions_le_max_dimensions c.requires.operations_value e (sym c.check_operations.ensures ∙ c.in-Length.is) in
+    let x = ready a.shape a.config a.sequence a.operations.now a.coordinates.now a.captions.now (length o) c.in_ok-n.n
+    c.requires.dimensions_le_max_dimensions c.requires.operations_value e (sym c.check_operations.ensures ∙ c.in_ok-n.was) in
     omega (arith, x.size, mid_len 8 (length o) o (le_refl (length o)), c.if-out-payload.false, c.head-before.ensures)
 
 pub returns : goal.returns
@@ -86,11 +87,11 @@ returns c =
     let a = c.args in
     let o = a.out.now in
     let B = payload_bytes a.shape a.sequence (tagged_of a.config a.operations.now a.coordinates.now a.captions.now) in
-    let N = c.head-before.result + c.in-Length.n in
+    let N = c.head-before.result + c.in_ok-n.n in
     let h = c.head-before.ensures in
     let e = enough a.config.dimensions _ _ a.operations.now c.put_count-puts.ensures.value c.if-coordinates-d.false in
-    let x = ready a.shape a.config a.sequence a.operations.now a.coordinates.now a.captions.now (length o) c.in-Length.n
-    c.requires.dimensions_le_max_dimensions c.requires.operations_value e (sym c.check_operations.ensures ∙ c.in-Length.is) in
+    let x = ready a.shape a.config a.sequence a.operations.now a.coordinates.now a.captions.now (length o) c.in_ok-n.n
+    c.requires.dimensions_le_max_dimensions c.requires.operations_value e (sym c.check_operations.ensures ∙ c.in_ok-n.was) in
     let is : length B ≡ N = omega (arith, x.size, h) in
     let there : N + 12 ≤ length o = c.if-out-payload.false in
     let ys = c.write_payload.new.out in

@@ -4,7 +4,6 @@ use native.Mathlib.Omega.{arith}
 use mathlib.Core.Bool.{Bool}
 use Rattle.encoder.specs.Requests.{taken}
 use Rattle.encoder.proofs.RunLaws.{puts_end, put_at_lem, puts_more}
-use borrow.Author.Rules.{rules}
 use Rattle.encoder.proofs.put_count.Goals as goal
 
 pub loop-k-preserved : goal.loop-k-preserved
@@ -12,9 +11,9 @@ loop-k-preserved c =
     let words = c.args.operations.now in
     let l = c.loop-k in
     let one = c.taken-count.ensures.0 ∙ ap (λ (t : Bool). taken t 1) (put_at_lem words l.k c.operation_at-o.result c.operation_at-o.ensures) in
-    (search rules, omega (arith, c.taken-count.ensures.1, l.invariant.1), omega (arith, l.invariant.2, puts_more words l.k c.loop-k-test.true))
+    (omega (arith, c.taken-count.ensures.1, l.invariant.0), omega (arith, l.invariant.1, puts_more words l.k c.loop-k-test.true))
 
 pub returns-clause-value : goal.returns-clause-value
 returns-clause-value c =
     let l = c.loop-k in
-    omega (arith, l.invariant.2, puts_end c.args.operations.now l.k c.loop-k-test.false)
+    omega (arith, l.invariant.1, puts_end c.args.operations.now l.k c.loop-k-test.false)

@@ -9,11 +9,10 @@ use Rattle.fields.specs.Placed.{placed}
 use Rattle.fields.proofs.PlacedLaws.{placed_none, then_placed}
 use Rattle.coordinates.specs.Coordinates.{coordinate_bytes}
 use Rattle.encoder.proofs.CoordinateLaws.{coordinates_none, coordinates_more, coordinates_size}
-use borrow.Author.Rules.{rules}
 use Rattle.encoder.proofs.write_coordinates.Goals as goal
 
 pub loop-i-init : goal.loop-i-init
-loop-i-init c = let o = c.args.out.now in (search rules, refl, sym (ap (λ (l : List ℕ). placed 0 l o) coordinates_none ∙ placed_none 0 o))
+loop-i-init c = let o = c.args.out.now in (refl, sym (ap (λ (l : List ℕ). placed 0 l o) coordinates_none ∙ placed_none 0 o))
 
 pub loop-i-preserved : goal.loop-i-preserved
 loop-i-preserved c =
@@ -22,9 +21,8 @@ loop-i-preserved c =
     let l = c.loop-i in
     let p = c.put_u32 in
     let h = c.loop-i-test.true in
-    let size : 4 * l.i ≡ 0 + length (coordinate_bytes (take l.i cs)) = omega (arith, coordinates_size cs l.i l.invariant.0) in (
-      search rules,
-      p.auto.out ∙ l.invariant.1,
-      then_placed 0 (coordinate_bytes (take l.i cs)) (bytes 4 (get_or cs l.i 0)) o l.out p.new.out (4 * l.i) (omega arith) l.invariant.2 size p.ensures
+    let size : 4 * l.i ≡ 0 + length (coordinate_bytes (take l.i cs)) = omega (arith, coordinates_size cs l.i l.auto.i-end) in (
+      p.auto.out ∙ l.invariant.0,
+      then_placed 0 (coordinate_bytes (take l.i cs)) (bytes 4 (get_or cs l.i 0)) o l.out p.new.out (4 * l.i) (omega arith) l.invariant.1 size p.ensures
           ∙ ap (λ (b : List ℕ). placed 0 b o) (coordinates_more cs l.i h),
     )

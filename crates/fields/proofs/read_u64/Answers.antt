@@ -4,8 +4,8 @@ use mathlib.Core.Path.{sym, ap, ◌∙◌}
 use Prim.Native.Nat.{ℕ, ◌+◌}
 use native.Mathlib.Omega.{arith}
 use Rattle.fields.proofs.Readers.{field64_room}
-use Rattle.fields.specs.declared.Field64.TheVariants as F64
+use Rattle.std.specs.Prelude.{Some}
 use Rattle.fields.proofs.read_u64.Goals as goal
 
 pub returns : goal.returns
-returns c = let a = c.args in ap (λ (v : ℕ). F64.Value v (a.at + 8)) c.get_u64.ensures ∙ sym (field64_room a.s.now a.at (omega arith))
+returns c = let a = c.args in ap (λ (v : ℕ). Some (v, a.at + 8)) c.get_u64.ensures ∙ sym (field64_room a.s.now a.at (omega arith))

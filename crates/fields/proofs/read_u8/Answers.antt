@@ -5,8 +5,8 @@ use Prim.Native.Nat.{ℕ, ◌+◌}
 use native.Mathlib.Omega.{arith}
 use Rattle.fields.proofs.Numbers.{num_one}
 use Rattle.fields.proofs.Readers.{field8_room}
-use Rattle.fields.specs.declared.Field8.TheVariants as F8
+use Rattle.std.specs.Prelude.{Some}
 use Rattle.fields.proofs.read_u8.Goals as goal
 
 pub returns : goal.returns
-returns c = let a = c.args in ap (λ (b : ℕ). F8.Value b (a.at + 1)) (sym (num_one a.s.now a.at)) ∙ sym (field8_room a.s.now a.at (omega arith))
+returns c = let a = c.args in ap (λ (b : ℕ). Some (b, a.at + 1)) (sym (num_one a.s.now a.at)) ∙ sym (field8_room a.s.now a.at (omega arith))

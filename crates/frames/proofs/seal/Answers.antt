@@ -1,16 +1,11 @@
 -- Three stores around the payload: `seal_stores`.
-use mathlib.Core.Path.{◌≡◌, sym, ap, ◌∙◌}
+use mathlib.Core.Path.{◌≡◌, ap, ◌∙◌}
 use Prim.Native.Nat.{ℕ, ◌+◌, ◌-◌}
 use native.Mathlib.Omega.{arith}
 use lib.ListN.{take, drop}
-use lib.Seq.{length-take-le}
 use Rattle.crc32.specs.Crc.{crc_of}
 use Rattle.frames.proofs.Frames.{seal_stores}
 use Rattle.frames.proofs.seal.Goals as goal
-
-pub slice_bounds-crc32-end-3 : goal.slice_bounds-crc32-end-3
-slice_bounds-crc32-end-3 c =
-    let one = c.put_u32 in sym (length-take-le 4 one.new.out (omega (arith, one.auto.out)))
 
 pub returns : goal.returns
 returns c =

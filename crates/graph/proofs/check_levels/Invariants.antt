@@ -1,5 +1,4 @@
 -- `check_levels` answers the levels in order. The invariant: the run from here is the whole run, and every mark is below what comes next.
-use Prim.Native.Nat.{◌-◌}
 use lib.ListN.{length}
 use Rattle.graph.specs.Cache.{read_level}
 use Rattle.graph.proofs.Listing.{Running}
@@ -7,6 +6,3 @@ use Rattle.graph.proofs.check_levels.Given as goal
 
 abbrev pub invariant-loop-level : goal.invariant-loop-level
 invariant-loop-level l = Running (read_level l.m l.count l.s l.end l.node) l.end l.levels l.first (length l.initial.marks) l.marks l.at l.level
-
-abbrev pub decreases-loop-level : goal.decreases-loop-level
-decreases-loop-level l = l.levels - l.level

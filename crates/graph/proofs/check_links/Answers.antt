@@ -1,63 +1,40 @@
 -- `check_links` answers `linked_test`: 49, then 50.
--- ---- no edge is lost
 use Prim.Native.Nat.{ℕ, ◌<◌}
-use native.Mathlib.Omega.{arith}
 use mathlib.Core.Path.{◌≡◌, refl, sym, ap, subst, ◌∙◌}
-use mathlib.Core.Bool.{true, false}
+use mathlib.Core.Bool.{Bool}
+use mathlib.Core.List.{List}
+use lib.ListN.{length, get_or}
 use lib.Dec.{ltb}
-use lib.ListN.{length}
-use Rattle.graph.specs.Decoded.{graph_at, EntryIn}
-use Rattle.graph.specs.Graph.{levels_of, any_of, edge_lost, entry_below}
+use Rattle.graph.specs.Decoded.{graph_at, height_at, Laid, EntryIn}
+use Rattle.graph.specs.Graph.{levels_of, any_of, edge_lost, linked_test}
 use Rattle.graph.specs.Layout.{first_node}
-use Rattle.graph.proofs.Body.{laid_height, laid_edges, links_lost, links_low, links_good}
+use Rattle.graph.proofs.Body.{laid_height, laid_edges}
 use Rattle.graph.proofs.Walk.{height_is}
-use Rattle.graph.specs.declared.Entry.{Entry}
 use Rattle.graph.proofs.check_links.Goals as goal
 
-pub returns-then-edge_lost : goal.returns-then-edge_lost
-returns-then-edge_lost c =
-    let a = c.args in
-    sym (links_lost a.entry (graph_at a.count a.s.now first_node) (sym (laid_edges a.s.now a.starts.now a.count c.requires.laid) ∙ sym c.edge_lost.ensures ∙ c.if-edge_lost.true))
+module _ {s starts : List ℕ} {count : ℕ} (laid : Laid s starts count) where
+  -- whether an edge is lost, by the levels of the graph
+  edges : {x b : Bool} → x ≡ edge_lost (height_at s starts) (graph_at count s first_node) → x ≡ b
+      → edge_lost (levels_of (graph_at count s first_node)) (graph_at count s first_node) ≡ b
+  edges e t = sym (laid_edges s starts count laid) ∙ sym e ∙ t
+
+  -- whether a node is above the entry, by its levels
+  above : {n h : ℕ} {x b : Bool} → n < count → h ≡ get_or s (get_or starts n 0) 0 → x ≡ any_of (λ links. ltb h (length links)) (graph_at count s first_node)
+      → x ≡ b → any_of (λ links. ltb (levels_of (graph_at count s first_node) n) (length links)) (graph_at count s first_node) ≡ b
+  above {n} {h} k w e t =
+      let high = height_is s starts n n h refl w ∙ laid_height s starts count laid n k in
+      ap (λ (j : ℕ). any_of (λ links. ltb j (length links)) (graph_at count s first_node)) (sym high) ∙ sym e ∙ t
 
 pub returns-then-taller : goal.returns-then-taller
+unfolding linked_test
 returns-then-taller c =
-    let a = c.args in
-    let g = graph_at a.count a.s.now first_node in
-    let n = c.in-Node.n.0 in
-    let entered : n < a.count = subst (EntryIn a.count) c.in-Node.is c.requires.entry_in in
-    let high : c.wide.result ≡ levels_of g n = height_is a.s.now a.starts.now n n c.wide.result refl c.wide.ensures.0 ∙ laid_height a.s.now a.starts.now a.count c.requires.laid n entered in
-    let below : entry_below (levels_of g) a.entry g ≡ true =
-    ap (λ (x : Entry). entry_below (levels_of g) x g) c.in-Node.is ∙ ap (λ (h : ℕ). any_of (λ links. ltb h (length links)) g) (sym high) ∙ sym c.taller.ensures ∙ c.if-taller.true in
-    let whole : edge_lost (levels_of (graph_at c.args.count c.args.s.now first_node)) (graph_at c.args.count c.args.s.now first_node) ≡ false =
-    let a = c.args in
-    sym (laid_edges a.s.now a.starts.now a.count c.requires.laid) ∙ sym c.edge_lost.ensures ∙ c.if-edge_lost.false in
-    sym (links_low _ _ whole below)
+    let pre = c.requires in
+    let entered = subst (EntryIn c.args.count) c.in-Some.is pre.entry_in in
+    simp (edges pre.laid c.edge_lost.ensures c.if-edge_lost.false, c.in-Some.is, above pre.laid entered c.wide.ensures.0 c.taller.ensures c.if-taller.true)
 
-pub returns-else-taller : goal.returns-else-taller
-returns-else-taller c =
-    let a = c.args in
-    let g = graph_at a.count a.s.now first_node in
-    let n = c.in-Node.n.0 in
-    let entered : n < a.count = subst (EntryIn a.count) c.in-Node.is c.requires.entry_in in
-    let high : c.wide.result ≡ levels_of g n = height_is a.s.now a.starts.now n n c.wide.result refl c.wide.ensures.0 ∙ laid_height a.s.now a.starts.now a.count c.requires.laid n entered in
-    let below : entry_below (levels_of g) a.entry g ≡ false =
-    ap (λ (x : Entry). entry_below (levels_of g) x g) c.in-Node.is ∙ ap (λ (h : ℕ). any_of (λ links. ltb h (length links)) g) (sym high) ∙ sym c.taller.ensures ∙ c.if-taller.false in
-    let whole : edge_lost (levels_of (graph_at c.args.count c.args.s.now first_node)) (graph_at c.args.count c.args.s.now first_node) ≡ false =
-    let a = c.args in
-    sym (laid_edges a.s.now a.starts.now a.count c.requires.laid) ∙ sym c.edge_lost.ensures ∙ c.if-edge_lost.false in
-    sym (links_good _ _ whole below)
-
-pub returns-in-None : goal.returns-in-None
-returns-in-None c =
-    let whole : edge_lost (levels_of (graph_at c.args.count c.args.s.now first_node)) (graph_at c.args.count c.args.s.now first_node) ≡ false =
-    let a = c.args in
-    sym (laid_edges a.s.now a.starts.now a.count c.requires.laid) ∙ sym c.edge_lost.ensures ∙ c.if-edge_lost.false in
-    let a = c.args in
-    let g = graph_at a.count a.s.now first_node in
-    sym (links_good a.entry g whole (ap (λ (e : Entry). entry_below (levels_of g) e g) c.in-None.is))
-
-pub bounds-starts-n : goal.bounds-starts-n
-bounds-starts-n c =
-    let entered : c.in-Node.n.0 < c.args.count =
-    subst (EntryIn c.args.count) c.in-Node.is c.requires.entry_in in
-    omega (arith, entered, c.requires.laid.lent)
+pub returns : goal.returns
+unfolding linked_test
+returns c =
+    let pre = c.requires in
+    let entered = subst (EntryIn c.args.count) c.in-Some.is pre.entry_in in
+    simp (edges pre.laid c.edge_lost.ensures c.if-edge_lost.false, c.in-Some.is, above pre.laid entered c.wide.ensures.0 c.taller.ensures c.if-taller.false)

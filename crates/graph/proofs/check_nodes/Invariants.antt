@@ -8,6 +8,3 @@ use Rattle.graph.proofs.check_nodes.Given as goal
 
 abbrev pub invariant-loop-node : goal.invariant-loop-node
 invariant-loop-node l = Running (read_node l.m l.count l.s (length l.s - 4)) (length l.s - 4) l.count first_node (length l.initial.marks) l.marks l.at l.node
-
-abbrev pub decreases-loop-node : goal.decreases-loop-node
-decreases-loop-node l = l.count - l.node

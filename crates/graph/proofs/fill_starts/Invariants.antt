@@ -1,10 +1,6 @@
 -- `fill_starts` writes each node's first byte. The invariant: the starts so far, and behind them what was lent.
-use Prim.Native.Nat.{◌-◌}
 use Rattle.graph.proofs.Starts.{Filling}
 use Rattle.graph.proofs.fill_starts.Given as goal
 
 abbrev pub invariant-loop-i : goal.invariant-loop-i
 invariant-loop-i l = Filling l.s l.count l.initial.starts l.starts l.at l.i
-
-abbrev pub decreases-loop-i : goal.decreases-loop-i
-decreases-loop-i l = l.count - l.i

@@ -3,11 +3,7 @@ use Prim.Native.Nat.{◌-◌, ◌≤◌}
 use mathlib.Core.Path.{◌≡◌}
 use lib.ListN.{length}
 use Rattle.graph.specs.Neighbours.{level_above}
-use Rattle.graph.specs.Told.{shown_told}
 use Rattle.graph.proofs.level_above.Given as goal
 
-abbrev pub invariant-loop-i : goal.invariant-loop-i
-invariant-loop-i l = (l.i ≤ l.level) × (l.at ≤ length l.s) × (shown_told (level_above (l.level - l.i) l.s l.at) ≡ shown_told (level_above l.level l.s l.first))
-
-abbrev pub decreases-loop-i : goal.decreases-loop-i
-decreases-loop-i l = l.level - l.i
+abbrev pub invariant-loop : goal.invariant-loop
+invariant-loop l = (l.at ≤ length l.s) × (level_above (l.level - l.counter) l.s l.at ≡ level_above l.level l.s l.first)

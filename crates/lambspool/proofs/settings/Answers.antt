@@ -1,21 +1,22 @@
 -- The metric is read, and the rest goes in as it is.
+use Rattle.config.specs.declared.Metric.{Metric}
+use Rattle.refusal.specs.Refusal.{Answer}
 use mathlib.Core.Path.{◌≡◌}
 use Rattle.config.specs.Settings.{metric_of}
-use Rattle.config.specs.declared.ReadMetric.{ReadMetric}
-use Rattle.snapshot.proofs.Inverses.{from_metric, metric_is}
+use Rattle.refusal.proofs.Inverses.{came_to, handed_on}
 use Rattle.lambspool.specs.Asked.{settings_of}
 use Rattle.lambspool.proofs.settings.Goals as goal
 
-pub returns-in-Known : goal.returns-in-Known
+pub returns : goal.returns
 unfolding settings_of
-returns-in-Known c =
-    let metric : (y : ReadMetric) → c.from_u32.result ≡ y → metric_of c.args.metric ≡ from_metric y =
-    λ y e. metric_is _ c.from_u32.ensures e in
-    simp (metric _ c.in-Known.is)
+returns c =
+    let metric : (y : Answer Metric) → c.from_u32.result ≡ y → metric_of c.args.metric ≡ y =
+    λ y e. came_to _ c.from_u32.ensures e in
+    simp (metric _ c.in_ok-known.was)
 
-pub returns-in-Refused : goal.returns-in-Refused
+pub returns-in_err-known : goal.returns-in_err-known
 unfolding settings_of
-returns-in-Refused c =
-    let metric : (y : ReadMetric) → c.from_u32.result ≡ y → metric_of c.args.metric ≡ from_metric y =
-    λ y e. metric_is _ c.from_u32.ensures e in
-    simp (metric _ c.in-Refused.is)
+returns-in_err-known c =
+    let metric : (y : Answer Metric) → c.from_u32.result ≡ y → metric_of c.args.metric ≡ y =
+    λ y e. came_to _ c.from_u32.ensures e in
+    simp (metric _ c.in_err-known.was) (handed_on _ _ c.from_residual.ensures)

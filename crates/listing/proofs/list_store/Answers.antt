@@ -1,7 +1,7 @@
 -- `list_store` shows the answer of the recovery of the two files in the room, hands on what that recovery left, and tells how many nodes
 -- were shown.
 use Rattle.std.proofs.Common.{arith, sym, ap, ◌∙◌}
-use Rattle.recovery.specs.declared.Recovery.{Recovery}
+use Rattle.recovery.specs.Told.{Recovery}
 use Rattle.listing.specs.Shown.{nodes_of}
 use Rattle.listing.proofs.Parts.{recovers_in_room}
 use Rattle.listing.proofs.list_store.Goals as goal
@@ -12,35 +12,24 @@ show_answer-next-requires-clause-recovers g c =
     let p = c.recover-answer in
     recovers_in_room a.room.now a.snapshot a.log a.rows.now a.active.now _ _ (omega arith) (omega arith) (omega arith) p.ensures.value p.ensures.rows_after
 
-pub returns-in-Recovered : goal.returns-in-Recovered
-returns-in-Recovered g c =
+pub returns-in-Ok : goal.returns-in-Ok
+returns-in-Ok g c =
     let a = c.args in
     let p = c.recover-answer in
     record {
       answer = p.result;
       words = p.new.rows;
       recovers = recovers_in_room a.room.now a.snapshot a.log a.rows.now a.active.now _ _ (omega arith) (omega arith) (omega arith) p.ensures.value p.ensures.rows_after;
-      all_nodes = c.list_nodes.ensures ∙ sym (ap (λ (x : Recovery). nodes_of x p.new.rows) c.in-Recovered.is);
+      all_nodes = c.list_nodes.ensures ∙ sym (ap (λ (x : Recovery). nodes_of x p.new.rows) c.in-Ok.is);
     }
 
-pub returns-in-RefusedSnapshot : goal.returns-in-RefusedSnapshot
-returns-in-RefusedSnapshot g c =
+pub returns-in-Err : goal.returns-in-Err
+returns-in-Err g c =
     let a = c.args in
     let p = c.recover-answer in
     record {
       answer = p.result;
       words = p.new.rows;
       recovers = recovers_in_room a.room.now a.snapshot a.log a.rows.now a.active.now _ _ (omega arith) (omega arith) (omega arith) p.ensures.value p.ensures.rows_after;
-      all_nodes = c.show_answer-next.ensures ∙ sym (ap (λ (x : Recovery). nodes_of x p.new.rows) c.in-RefusedSnapshot.is);
-    }
-
-pub returns-in-RefusedLog : goal.returns-in-RefusedLog
-returns-in-RefusedLog g c =
-    let a = c.args in
-    let p = c.recover-answer in
-    record {
-      answer = p.result;
-      words = p.new.rows;
-      recovers = recovers_in_room a.room.now a.snapshot a.log a.rows.now a.active.now _ _ (omega arith) (omega arith) (omega arith) p.ensures.value p.ensures.rows_after;
-      all_nodes = c.show_answer-next.ensures ∙ sym (ap (λ (x : Recovery). nodes_of x p.new.rows) c.in-RefusedLog.is);
+      all_nodes = c.show_answer-next.ensures ∙ sym (ap (λ (x : Recovery). nodes_of x p.new.rows) c.in-Err.is);
     }

@@ -65,7 +65,7 @@ finish-requires c =
     let begun = first_stands a.info a.rows.now a.active.now k.rows k.left b.result b.new.words b.new.entries b.ensures.grown b.ensures.count_value b.ensures.words_unchanged in
     let frames =
     subst (λ (n : ℕ). Reaches d (outcome a.info a.log.now a.place n k.rows) p.result p.new.words p.new.entries) c.rows_lent-lent.ensures (p.ensures k.rows begun) in
-    let w = was_reached d (outcome a.info a.log.now a.place lent k.rows) p.result c.in-Reached.reached p.new.words p.new.entries frames c.in-Reached.is in
+    let w = was_reached d (outcome a.info a.log.now a.place lent k.rows) p.result c.in-Ok.reached p.new.words p.new.entries frames c.in-Ok.is in
     let keep = w.there.keep_is in
     let inside : w.keep ≤ length a.log.now =
     keep_inside a.info.config a.log.now (bounds_for lent) a.info.sequence a.place.previous a.place.at
@@ -75,8 +75,8 @@ finish-requires c =
       kept = record { rows = w.state.records; stands = w.there.stands };
     }
 
-pub returns-in-Reached : goal.returns-in-Reached
-returns-in-Reached c =
+pub returns-in-Ok : goal.returns-in-Ok
+returns-in-Ok c =
     let a = c.args in
     let b = c.begin-tree in
     let p = c.replay_frames in
@@ -86,16 +86,16 @@ returns-in-Reached c =
     let begun = first_stands a.info a.rows.now a.active.now records l b.result b.new.words b.new.entries b.ensures.grown b.ensures.count_value b.ensures.words_unchanged in
     let frames =
     subst (λ (n : ℕ). Reaches d (outcome a.info a.log.now a.place n records) p.result p.new.words p.new.entries) c.rows_lent-lent.ensures (p.ensures records begun) in
-    let w = was_reached d (outcome a.info a.log.now a.place lent records) p.result c.in-Reached.reached p.new.words p.new.entries frames c.in-Reached.is in
+    let w = was_reached d (outcome a.info a.log.now a.place lent records) p.result c.in-Ok.reached p.new.words p.new.entries frames c.in-Ok.is in
     let t = w.there in
     recovers_for a.log.now a.rows.now a.active.now p.new.words p.new.entries (p.auto.words ∙ b.auto.words) (p.auto.entries ∙ b.auto.entries)
-    (ends_in a.info (state_of c.in-Reached.reached w.state.records) c.in-Reached.reached.keep) (ended (snapshot_read a.info records) (outcome a.info a.log.now a.place lent records))
+    (ends_in a.info (state_of c.in-Ok.reached w.state.records) c.in-Ok.reached.keep) (ended (snapshot_read a.info records) (outcome a.info a.log.now a.place lent records))
     (ap₂ (λ (x : State Row) (n : ℕ). ends_in a.info x n) t.state_is t.keep_is ∙ sym (ap (ended (snapshot_read a.info records)) w.is))
     c.finish.result c.finish.new.rows c.finish.new.active
     (c.finish.ensures w.state.records t.stands)
 
-pub returns-in-Refused : goal.returns-in-Refused
-returns-in-Refused c =
+pub returns-in-Err : goal.returns-in-Err
+returns-in-Err c =
     let a = c.args in
     let b = c.begin-tree in
     let p = c.replay_frames in
@@ -106,9 +106,9 @@ returns-in-Refused c =
     let begun = first_stands a.info a.rows.now a.active.now records l b.result b.new.words b.new.entries b.ensures.grown b.ensures.count_value b.ensures.words_unchanged in
     let frames =
     subst (λ (n : ℕ). Reaches d (outcome a.info a.log.now a.place n records) p.result p.new.words p.new.entries) c.rows_lent-lent.ensures (p.ensures records begun) in
-    refused_recovers a.log.now a.rows.now a.active.now (ended (snapshot_read a.info records) (outcome a.info a.log.now a.place lent records)) c.in-Refused.why c.in-Refused.at
+    refused_recovers a.log.now a.rows.now a.active.now (ended (snapshot_read a.info records) (outcome a.info a.log.now a.place lent records)) c.in-Err.field-0.0 c.in-Err.field-0.1
     (ap (ended (snapshot_read a.info records))
-    (was_stopped d (outcome a.info a.log.now a.place lent records) p.result c.in-Refused.why c.in-Refused.at p.new.words p.new.entries frames c.in-Refused.is))
+    (was_stopped d (outcome a.info a.log.now a.place lent records) p.result c.in-Err.field-0.0 c.in-Err.field-0.1 p.new.words p.new.entries frames c.in-Err.is))
     k.new.rows k.new.entries
     (k.ensures.rows_after ∙ ap (λ (n : ℕ). replicate n 0) (p.auto.words ∙ b.auto.words))
     (k.ensures.entries_after ∙ ap (λ (n : ℕ). replicate n 0) (p.auto.entries ∙ b.auto.entries))

@@ -17,12 +17,12 @@ loop-at-init c =
 pub returns-then-follows : goal.returns-then-follows
 returns-then-follows c = let i = c.loop-at.invariant in λ bounds rows. (i.inside, (i.few, i.same bounds rows))
 
-pub returns-in-TooLittle : goal.returns-in-TooLittle
-returns-in-TooLittle c =
+pub returns-in-Ok-None : goal.returns-in-Ok-None
+returns-in-Ok-None c =
     let a = c.args in
     let l = c.loop-at in
     let log = a.log.now in
-    let e = told_little a.config log l.previous l.at (sym c.in-TooLittle.is ∙ c.read_frame.ensures) in
+    let e = told_little a.config log l.previous l.at (rw c.in-Ok-None.field-0-is at (sym c.in-Ok-None.is ∙ c.read_frame.ensures)) in
     λ bounds rows.
     (l.invariant.inside, l.invariant.same bounds rows ∙ run_tail a.config log bounds a.sequence l.previous l.at (skipped_only a.sequence rows l.skipped) e)
 
@@ -35,7 +35,7 @@ pub loop-at-smaller : goal.loop-at-smaller
 loop-at-smaller c =
     let a = c.args in
     let l = c.loop-at in
-    let facts = read_facts a.config a.log.now l.previous l.at _ (told_whole a.config a.log.now l.previous l.at c.in-Whole.frame (sym c.in-Whole.is ∙ c.read_frame.ensures)) in
+    let facts = read_facts a.config a.log.now l.previous l.at _ (told_whole a.config a.log.now l.previous l.at c.in-Ok-Some.frame (rw c.in-Ok-Some.field-0-is at (sym c.in-Ok-Some.is ∙ c.read_frame.ensures))) in
     let far = facts.far in
     let inside = facts.inside in
     omega arith
@@ -44,7 +44,7 @@ pub loop-at-preserved : goal.loop-at-preserved
 loop-at-preserved c =
     let a = c.args in
     let l = c.loop-at in
-    let r = told_whole a.config a.log.now l.previous l.at c.in-Whole.frame (sym c.in-Whole.is ∙ c.read_frame.ensures) in
+    let r = told_whole a.config a.log.now l.previous l.at c.in-Ok-Some.frame (rw c.in-Ok-Some.field-0-is at (sym c.in-Ok-Some.is ∙ c.read_frame.ensures)) in
     let facts = read_facts a.config a.log.now l.previous l.at _ r in
     let far = facts.far in
     let few = l.invariant.few in
@@ -54,12 +54,12 @@ loop-at-preserved c =
       same = λ bounds rows. l.invariant.same bounds rows ∙ run_skips a.config a.log.now bounds a.sequence l.previous l.at rows l.skipped _ r c.if-sequence-frame.false;
     }
 
-pub returns-in-Refused : goal.returns-in-Refused
-returns-in-Refused c =
+pub returns-in-Err : goal.returns-in-Err
+returns-in-Err c =
     let a = c.args in
     let l = c.loop-at in
     let log = a.log.now in
-    let e = told_wrong a.config log l.previous l.at _ (sym c.in-Refused.is ∙ c.read_frame.ensures) in
+    let e = told_wrong a.config log l.previous l.at _ (sym c.in-Err.is ∙ c.read_frame.ensures) in
     λ bounds rows. l.invariant.same bounds rows ∙ run_bad a.config log bounds a.sequence l.previous l.at (skipped_only a.sequence rows l.skipped) _ e
 
 pub returns : goal.returns

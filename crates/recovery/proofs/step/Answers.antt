@@ -40,8 +40,8 @@ apply_frame-requires c =
       kept = p.kept;
     }
 
-pub overflow_add-result-in-Went : goal.overflow_add-result-in-Went
-overflow_add-result-in-Went c =
+pub overflow_add-result-in-Ok : goal.overflow_add-result-in-Ok
+overflow_add-result-in-Ok c =
     let few : c.args.reached.replayed + c.args.reached.skipped ≤ max_log_bytes =
     let a = c.args in
     let there = c.requires.frame_there in
@@ -52,16 +52,16 @@ overflow_add-result-in-Went c =
     let h = few in
     omega arith
 
-pub returns-in-Went : goal.returns-in-Went
-returns-in-Went c =
+pub returns-in-Ok : goal.returns-in-Ok
+returns-in-Ok c =
     let a = c.args in
     λ f rows i s.
     leaves_played a.config a.log.now (bounds_for a.lent) a.snapshot a.frame a.reached f rows i c.if-frame-snapshot.false c.if-frame-reached.false
-    c.apply_frame.result c.in-Went.table _ _ c.in-Went.is (c.apply_frame.ensures f rows i s)
+    c.apply_frame.result c.in-Ok.table _ _ c.in-Ok.is (c.apply_frame.ensures f rows i s)
 
-pub returns-in-Refused : goal.returns-in-Refused
-returns-in-Refused c =
+pub returns-in-Err : goal.returns-in-Err
+returns-in-Err c =
     let a = c.args in
     λ f rows i s.
     leaves_refused a.config a.log.now (bounds_for a.lent) a.snapshot a.frame a.reached f rows i c.if-frame-snapshot.false c.if-frame-reached.false
-    c.apply_frame.result c.in-Refused.why _ _ c.in-Refused.is (c.apply_frame.ensures f rows i s)
+    c.apply_frame.result c.in-Err.why _ _ c.in-Err.is (c.apply_frame.ensures f rows i s)

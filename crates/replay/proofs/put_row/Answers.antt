@@ -1,6 +1,6 @@
 -- `put_row` follows `apply_put`: the old row of the ID is marked, then the tests, then the row is appended.
 -- the new size is far from any bound
-use Prim.Native.Nat.{ℕ, ◌+◌, ◌*◌, ◌≤◌}
+use Prim.Native.Nat.{ℕ, ◌+◌, ◌≤◌}
 use mathlib.Core.Path.{sym, subst}
 use mathlib.Core.List.{[], ◌∷◌, ◌++◌}
 use Rattle.config.specs.Limits.{max_snapshot_bytes}
@@ -13,16 +13,6 @@ use Rattle.replay.proofs.TableLaws.{applied_refused, applied_went, put_many, put
 use native.Mathlib.Omega.{arith}
 use Rattle.replay.proofs.put_row.Goals as goal
 
-pub overflow_add-size : goal.overflow_add-size
-overflow_add-size c =
-    let bounded : c.take_out-out.result.size + c.record_length.result ≤ 2 * max_snapshot_bytes =
-    let kept = c.requires.kept in
-    let small = (c.take_out-out.ensures kept.rows kept.stands).stands.small in
-    let length = c.record_length.ensures in
-    let few = c.requires.row_fits.caption_fits in
-    omega arith in
-    let b = bounded in omega arith
-
 pub returns-then-count-ge-MAX_RECORDS : goal.returns-then-count-ge-MAX_RECORDS
 returns-then-count-ge-MAX_RECORDS c =
     let a = c.args in
@@ -30,16 +20,6 @@ returns-then-count-ge-MAX_RECORDS c =
     λ rows s.
     let e = o.ensures rows s in
     applied_refused a.d _ _ _ _ (put_many a.d a.lent a.row _ _ a.table o.result rows e c.if-count-ge-MAX_RECORDS.true)
-
-pub overflow_add-size-2 : goal.overflow_add-size-2
-overflow_add-size-2 c =
-    let bounded : c.take_out-out.result.size + c.record_length.result ≤ 2 * max_snapshot_bytes =
-    let kept = c.requires.kept in
-    let small = (c.take_out-out.ensures kept.rows kept.stands).stands.small in
-    let length = c.record_length.ensures in
-    let few = c.requires.row_fits.caption_fits in
-    omega arith in
-    let b = bounded in omega arith
 
 pub returns-then-size-gt-MAX_SNAPSHOT_BYTES : goal.returns-then-size-gt-MAX_SNAPSHOT_BYTES
 returns-then-size-gt-MAX_SNAPSHOT_BYTES c =
@@ -58,15 +38,6 @@ returns-then-lent-count c =
     let e = o.ensures rows s in
     let size = c.record_length.ensures in
     applied_refused a.d _ _ _ _ (put_unlent a.d a.lent a.row _ _ a.table o.result rows e c.if-count-ge-MAX_RECORDS.false (omega arith) c.if-lent-count.true)
-
-pub put-tree-requires : goal.put-tree-requires
-put-tree-requires c =
-    let room : let a = c.args in Room a.table.tree c.take_out-out.new.words a.entries.now =
-    let same = c.take_out-out.auto.words in
-    record { words_room = omega arith; entries_room = omega arith; fewer = omega arith } in
-    let kept = c.requires.kept in
-    let e = c.take_out-out.ensures kept.rows kept.stands in
-    record { grown = e.stands.grown; room = room; cell_value = e.cell_is; absent = e.absent }
 
 pub returns : goal.returns
 returns c =

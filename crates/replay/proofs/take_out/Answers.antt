@@ -1,15 +1,7 @@
 -- `take_out` finds the live row of an ID and marks it.
-use Rattle.tree.proofs.FindLaws.{finds_within}
 use Rattle.replay.proofs.TableLaws.{mark_sizes, taken_out}
 use native.Mathlib.Omega.{arith}
 use Rattle.replay.proofs.take_out.Goals as goal
-
-pub mark-freed-requires : goal.mark-freed-requires
-mark-freed-requires c =
-    let k = c.requires.stands.grown in
-    let w = finds_within _ _ _ _ c.find-place.ensures.finds in
-    let lent = k.words_lent in
-    omega arith
 
 pub overflow_sub-result : goal.overflow_sub-result
 overflow_sub-result c =

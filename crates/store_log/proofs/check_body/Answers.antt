@@ -11,9 +11,3 @@ returns-in-Single c =
     let a = c.args in
     c.operation_end.ensures ∙ sym (single_ends a.config a.log.now a.end a.opcode a.at)
     ∙ sym (ap (λ (s : Shape). nexts_told (operations_of s a.config a.log.now a.end a.opcode a.at)) c.in-Single.is)
-
-pub returns-in-Batch : goal.returns-in-Batch
-returns-in-Batch c =
-    let a = c.args in
-    c.check_batch.ensures
-    ∙ sym (ap (λ (s : Shape). nexts_told (operations_of s a.config a.log.now a.end a.opcode a.at)) c.in-Batch.is)

@@ -1,32 +1,11 @@
 -- `valid_operation` answers `operation_within`, wherever `end` and `at` are.
-use Prim.Native.Nat.{◌+◌, ◌≤◌, ◌<◌}
+use Prim.Native.Nat.{◌+◌, ◌≤◌}
 use mathlib.Core.Path.{◌≡◌, sym}
-use borrow.Author.Tests.{lt-ltb, le-ltb}
+use borrow.Author.Tests.{le-ltb}
 use Rattle.fields.proofs.Numbers.{num_one}
 use Rattle.meaning.specs.Calls.{id_offset}
 use native.Mathlib.Omega.{arith}
 use Rattle.store_log.proofs.valid_operation.Goals as goal
-
-pub returns-then-log-end : goal.returns-then-log-end
-returns-then-log-end c = simp (lt-ltb _ _ c.if-log-end.true)
-
-pub returns-then-end-at : goal.returns-then-end-at
-returns-then-end-at c =
-    let offset : c.id_offset-offset.result ≡ id_offset c.args.shape =
-    c.id_offset-offset.ensures.0 in
-    let a = c.args in
-    let e = offset in
-    let past : a.end < a.at + id_offset a.shape = omega (arith, c.if-end-at.true) in
-    simp (le-ltb _ _ c.if-log-end.false, lt-ltb _ _ past)
-
-pub returns-then-end-at-2 : goal.returns-then-end-at-2
-returns-then-end-at-2 c =
-    let offset : c.id_offset-offset.result ≡ id_offset c.args.shape =
-    c.id_offset-offset.ensures.0 in
-    let a = c.args in
-    let e = offset in
-    let past : a.end < a.at + id_offset a.shape = omega (arith, c.if-end-at-2.true, c.if-end-at.false) in
-    simp (le-ltb _ _ c.if-log-end.false, lt-ltb _ _ past)
 
 pub returns : goal.returns
 returns c =

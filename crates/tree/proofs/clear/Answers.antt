@@ -2,12 +2,12 @@
 -- Assumes nothing.
 use Prim.Native.Nat.{ℕ, ◌+◌, ◌*◌, ◌<◌}
 use native.Mathlib.Omega.{arith}
-use mathlib.Core.Path.{◌≡◌, refl, sym, ap, ◌∙◌, subst}
+use mathlib.Core.Path.{◌≡◌, sym, ap, ◌∙◌, subst}
 use mathlib.Core.List.{List}
-use lib.ListN.{length, get_or, set, length-set}
+use lib.ListN.{length, get_or}
 use lib.Seq.{get_or-set_same, get_or-set_other}
 use Rattle.digital_tree.proofs.PutLaws.{Same, yes, no, same}
-use Rattle.links.specs.Links.{plain_word, plain_rows}
+use Rattle.links.specs.Links.{plain_word}
 use Rattle.links.proofs.WordLaws.{plain_plain}
 use Rattle.links.proofs.PlainLaws.{plain_all}
 use Rattle.tree.proofs.SkipLaws.{out_words, out_rows}
@@ -27,22 +27,13 @@ one_more words i h all k l = go (same k i)
         let s : get_or (out_words words i) (2 * k + 1) 0 ≡ get_or words (2 * k + 1) 0 = get_or-set_other words (2 * i + 1) (2 * k + 1) _ 0 (λ q. e (omega arith)) in
         ap plain_word s ∙ all k (omega arith) ∙ sym s
 
-pub loop-i-init : goal.loop-i-init
-loop-i-init c = (refl, refl, λ k h. absurd (omega arith))
-
 pub loop-i-preserved : goal.loop-i-preserved
 loop-i-preserved c =
     let l = c.loop-i in
-    let e = c.plain.ensures in
-    subst (λ (x : ℕ). (length (set l.words (2 * l.i + 1) x) ≡ length c.args.words.now) × (plain_rows (set l.words (2 * l.i + 1) x) ≡ plain_rows c.args.words.now)
-    × ((k : ℕ) → k < l.i + 1 → plain_word (get_or (set l.words (2 * l.i + 1) x) (2 * k + 1) 0) ≡ get_or (set l.words (2 * l.i + 1) x) (2 * k + 1) 0)) (sym e)
-    (length-set l.words (2 * l.i + 1) (plain_word (get_or l.words (2 * l.i + 1) 0)) ∙ l.invariant.0, out_rows l.words l.i ∙ l.invariant.1, one_more l.words l.i (omega arith) l.invariant.2)
+    rw c.plain.ensures (out_rows l.words l.i ∙ l.invariant.0, one_more l.words l.i (omega arith) l.invariant.1)
 
 pub returns : goal.returns
 returns c =
     let l = c.loop-i in
     let n = c.loop-i-test.false in
-    sym (plain_all l.words (λ k h. l.invariant.2 k (omega arith))) ∙ l.invariant.1
-
-pub loop-i-smaller : goal.loop-i-smaller
-loop-i-smaller c = simp length-set (omega arith)
+    sym (plain_all l.words (λ k h. l.invariant.1 k (omega arith))) ∙ l.invariant.0

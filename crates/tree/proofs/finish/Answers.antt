@@ -1,11 +1,9 @@
 -- `tree::finish` meets its contract.
 -- Assumes nothing.
 use Prim.Native.Nat.{ℕ, ◌*◌}
-use native.Mathlib.Omega.{arith}
-use mathlib.Core.Path.{sym, ap, ◌∙◌}
+use mathlib.Core.Path.{ap, ◌∙◌}
 use mathlib.Core.List.{List, ◌++◌}
 use lib.ListN.{drop}
-use lib.Seq.{length-take-le}
 use Rattle.links.proofs.PlainLaws.{plain_take}
 use Rattle.tree.proofs.finish.Goals as goal
 
@@ -14,6 +12,3 @@ returns c =
     let a = c.args in
     let n : ℕ = a.tree.count in
     ap (λ (l : List ℕ). l ++ drop (2 * n) a.words.now) (c.clear.ensures ∙ plain_take a.words.now n)
-
-pub slice_bounds-clear-end-2 : goal.slice_bounds-clear-end-2
-slice_bounds-clear-end-2 c = sym (length-take-le _ _ (omega arith))

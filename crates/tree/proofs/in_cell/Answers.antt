@@ -4,19 +4,9 @@ use native.Mathlib.Omega.{arith}
 use mathlib.Core.Path.{sym, ◌∙◌}
 use borrow.Author.Tests.{eq-eqb, ne_eqb, le-leb, lt-leb}
 use Rattle.links.specs.Links.{live_link}
-use Rattle.tree.proofs.TreeLinks.{link_in_lem, not_one}
+use Rattle.tree.proofs.TreeLinks.{link_in_lem}
 use Rattle.tree.proofs.SpliceLaws.{old_small}
 use Rattle.tree.proofs.in_cell.Goals as goal
-
-pub link_at-link-requires : goal.link_at-link-requires
-link_at-link-requires c =
-    let a = c.args in
-    let g = c.requires.grown in
-    let i = c.requires.inside in
-    let h = i.below in
-    let w = g.words_lent in
-    let e = g.entries_lent in
-    record { fact = not_one a.tree.sorted a.tree.count a.cell i; cell_in_bounds = omega arith; cell_in_bounds_2 = omega arith }
 
 pub returns-then-link-eq0 : goal.returns-then-link-eq0
 unfolding live_link

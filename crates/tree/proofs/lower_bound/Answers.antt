@@ -9,9 +9,6 @@ use Rattle.links.proofs.PlainLaws.{id_of_link, next_id}
 use Rattle.tree.proofs.FrontLaws.{bound_low, bound_high}
 use Rattle.tree.proofs.lower_bound.Goals as goal
 
-pub returns-then-sorted-eq0 : goal.returns-then-sorted-eq0
-returns-then-sorted-eq0 c = record { up_to = omega arith; below = λ u p q. absurd (omega arith); from = λ u p q. absurd (omega arith) }
-
 pub returns-then-words-sorted : goal.returns-then-words-sorted
 returns-then-words-sorted c =
     let a = c.args in
@@ -22,9 +19,6 @@ returns-then-words-sorted c =
       below = bound_low (plain_rows w) a.sorted a.id c.requires.rising a.sorted (omega arith) l;
       from = λ u p q. absurd (omega arith);
     }
-
-pub loop-low-init : goal.loop-low-init
-loop-low-init c = (omega arith, omega arith, λ u p q. absurd (omega arith), λ u p q. absurd (omega arith))
 
 pub loop-low-preserved-then-words-middle : goal.loop-low-preserved-then-words-middle
 loop-low-preserved-then-words-middle c =
@@ -47,9 +41,3 @@ loop-low-preserved c =
     let e = next_id w m in
     let k : a.id ≤ id_of (plain_rows w) (suc m) = subst (λ (x : ℕ). a.id ≤ x) (sym e) c.if-words-middle.false in
     (omega arith, omega arith, l.invariant.2, λ u p q. bound_high (plain_rows w) a.sorted a.id c.requires.rising (suc m) (omega arith) k u (omega arith) q)
-
-pub returns : goal.returns
-returns c =
-    let l = c.loop-low in
-    let n = c.loop-low-test.false in
-    record { up_to = omega arith; below = l.invariant.2; from = λ u p q. l.invariant.3 u (omega arith) q }

@@ -9,6 +9,3 @@ use Rattle.tree.proofs.search.Given as goal
 abbrev pub invariant-loop-left : goal.invariant-loop-left
 invariant-loop-left l = (l.left ≤ 64) × Inside l.tree.sorted l.tree.count l.cell
     × (look mixed_id (id_of (plain_rows l.words)) (link_of l.tree l.words l.entries) l.left l.cell l.id ≡ cell_of l.tree l.words l.entries l.id)
-
-abbrev pub decreases-loop-left : goal.decreases-loop-left
-decreases-loop-left l = l.left

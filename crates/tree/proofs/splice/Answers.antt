@@ -30,16 +30,6 @@ module _ (t : Tree) (words entries : List ℕ) (y : ℕ) (g : Grown t words entr
       let k : x ≡ child_of t words entries (link_in t.root words entries y) b = e ∙ ap (λ (v : ℕ). child_of t words entries v b) is in
       omega arith
 
-pub link_at-old-requires : goal.link_at-old-requires
-link_at-old-requires c =
-    let a = c.args in
-    let g = c.requires.grown in
-    let i = c.requires.inside in
-    let h = i.below in
-    let w = g.words_lent in
-    let e = g.entries_lent in
-    record { fact = not_one a.tree.sorted a.tree.count a.cell i; cell_in_bounds = omega arith; cell_in_bounds_2 = omega arith }
-
 pub child-left-requires : goal.child-left-requires
 child-left-requires c =
     let r = reads_child c.args.tree c.args.words.now c.args.entries.now c.args.cell c.requires.grown c.requires.inside c.link_at-old.result c.link_at-old.ensures _ (omega arith) in

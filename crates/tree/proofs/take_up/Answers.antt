@@ -9,18 +9,6 @@ use Rattle.tree.specs.Grown.{Rises}
 use Rattle.tree.proofs.TakeUpLaws.{absent_here, added_there}
 use Rattle.tree.proofs.take_up.Goals as goal
 
-pub extend-requires : goal.extend-requires
-extend-requires c =
-    let a = c.args in
-    let w = a.words.now in
-    let n : ℕ = a.tree.count in
-    record {
-      grown = c.requires.grown;
-      room = c.requires.room;
-      rises = subst (λ (b : Bool). Rises (plain_rows w) a.tree (get_or w (2 * n) 0) b) c.if-rises.true c.rises.ensures;
-      absent = λ h. absent_here w n c.requires.once h;
-    }
-
 pub returns-then-rises : goal.returns-then-rises
 returns-then-rises c =
     let a = c.args in

@@ -1,9 +1,6 @@
--- Each turn goes past a line. The 128 bytes stay 128. The measure is what is left.
-use Rattle.std.proofs.Common.{length, ◌-◌, ◌≡◌}
+-- Each turn goes past a line. The measure is what is left.
+use Rattle.std.proofs.Common.{length, ◌-◌}
 use Rattle.utf8_vectors.proofs.lines.Given as goal
-
-abbrev pub invariant-loop-at : goal.invariant-loop-at
-invariant-loop-at g l = length l.bytes ≡ 128
 
 abbrev pub decreases-loop-at : goal.decreases-loop-at
 decreases-loop-at g l = length l.s - l.at

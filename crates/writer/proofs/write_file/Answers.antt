@@ -18,13 +18,6 @@ use Rattle.writer.proofs.WrittenLaws.{length_rows_bytes}
 use Rattle.writer.proofs.FileLaws.{length_header, file_parts}
 use Rattle.writer.proofs.write_file.Goals as goal
 
--- the records take as many bytes as they were counted
-pub write_records-crc-requires-clause-rows_in_bounds : goal.write_records-crc-requires-clause-rows_in_bounds
-write_records-crc-requires-clause-rows_in_bounds c =
-    let a = c.args in
-    let long = length_rows_bytes a.extent a.config a.snapshot.now a.log.now (rows_in a.count a.rows.now) c.requires.tested.fit ∙ sym c.requires.totals_of.bytes_are in
-    omega (arith, long, c.requires.bytes_in_bounds, c.write_header.auto.out)
-
 pub returns : goal.returns
 returns c =
     let a = c.args in

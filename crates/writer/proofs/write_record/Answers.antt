@@ -19,8 +19,8 @@ returns-clause-out_after c =
     let h : a.at ≤ length o = omega (arith, c.requires.caption_length_in_bounds) in
     let vector = length_vector a.d a.snapshot.now a.log.now r inside in
     let caption = length_caption a.d a.snapshot.now a.log.now r inside in
-    let q2 = then_field a.at o h 1 c.flag.result (record { long = length_bytes 8 r.id.0; same = c.put_u64.ensures }) refl c.put_u8.ensures in
+    let q2 = then_field a.at o h 1 c.from.result (record { long = length_bytes 8 r.id.0; same = c.put_u64.ensures }) refl c.put_u8.ensures in
     let q3 = then_part a.at o h _ q2 vector refl c.copy_shown.ensures in
     let q4 = then_field a.at o h 4 r.caption_length q3 (omega arith) c.put_u32.ensures in
     let q5 = then_part a.at o h _ q4 caption (omega arith) c.copy_shown-2.ensures in
-    q5.same ∙ ap (λ (l : List ℕ). placed a.at l o) (simp (append_assoc, c.flag.ensures, caption))
+    q5.same ∙ ap (λ (l : List ℕ). placed a.at l o) (simp (append_assoc, c.from.ensures, caption))

@@ -14,12 +14,9 @@ use Rattle.writer.specs.RowsWritten.{rows_bytes}
 use Rattle.writer.proofs.write_records.Given as goal
 
 abbrev pub invariant-loop-i : goal.invariant-loop-i
-invariant-loop-i l = (l.i ≤ l.count) × (length l.out ≡ length l.initial.out) × (any_misfit l.config l.snapshot l.log (rows_from (l.count - l.i) l.i l.rows) ≡ false)
+invariant-loop-i l = (length l.out ≡ length l.initial.out) × (any_misfit l.config l.snapshot l.log (rows_from (l.count - l.i) l.i l.rows) ≡ false)
     × (l.at + length (rows_bytes l.extent l.config.dimensions l.snapshot l.log (rows_from (l.count - l.i) l.i l.rows))
     ≡ header_length Two + length (rows_bytes l.extent l.config.dimensions l.snapshot l.log (rows_in l.count l.rows)))
     × (placed l.at (rows_bytes l.extent l.config.dimensions l.snapshot l.log (rows_from (l.count - l.i) l.i l.rows)) l.out
     ≡ placed (header_length Two) (rows_bytes l.extent l.config.dimensions l.snapshot l.log (rows_in l.count l.rows)) l.initial.out)
     × Sums l.out l.sum × (l.sum.upto ≤ l.at)
-
-abbrev pub decreases-loop-i : goal.decreases-loop-i
-decreases-loop-i l = l.count - l.i

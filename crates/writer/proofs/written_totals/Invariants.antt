@@ -10,9 +10,6 @@ use Rattle.writer.specs.RowsWritten.{most_of_a_row}
 use Rattle.writer.proofs.written_totals.Given as goal
 
 abbrev pub invariant-loop-i : goal.invariant-loop-i
-invariant-loop-i l = (l.i ≤ l.count) × (l.totals.records ≤ l.i) × (l.totals.bytes ≤ most_of_a_row * l.i)
+invariant-loop-i l = (l.totals.records ≤ l.i) × (l.totals.bytes ≤ most_of_a_row * l.i)
     × (l.totals.records + length (written l.extent (rows_from (l.count - l.i) l.i l.rows)) ≡ length (written l.extent (rows_in l.count l.rows)))
     × (l.totals.bytes + size (row_kind l.d) (written l.extent (rows_from (l.count - l.i) l.i l.rows)) ≡ size (row_kind l.d) (written l.extent (rows_in l.count l.rows)))
-
-abbrev pub decreases-loop-i : goal.decreases-loop-i
-decreases-loop-i l = l.count - l.i

@@ -7,12 +7,6 @@ use Rattle.crc32.proofs.eliminated.update.Goals as goal
 
 pub returns : goal.returns
 returns c =
-    let e = c.eliminate in
-    let l₄ = c in
-    let l₃ = l₄ in
-    let l₂ = l₃ in
-    let l₁ = l₂ in
-    let a = l₁.args in
     c.sixteens.ensures
-    ∙ eliminated a.c l₁.low.result l₂.low-2.result l₃.low-3.result l₄.low-4.result a.s.now e.new.out (search rules) (search rules)
-    l₁.low.ensures l₂.low-2.ensures l₃.low-3.ensures l₄.low-4.ensures e.ensures.alike
+    ∙ eliminated c.args.c c.low.result c.low-2.result c.low-3.result c.low-4.result c.args.s.now c.eliminate.new.out (search rules) (search rules)
+    c.low.ensures c.low-2.ensures c.low-3.ensures c.low-4.ensures c.eliminate.ensures.alike

@@ -1,8 +1,0 @@
--- `after_parts` is safe and ends. The measure is the number of parts left; nothing has to hold from turn to turn.
-use Rattle.exchange.proofs.request.after_parts.Given as goal
-
-abbrev pub invariant-loop-left : goal.invariant-loop-left
-invariant-loop-left l = Unit {0}
-
-abbrev pub decreases-loop-left : goal.decreases-loop-left
-decreases-loop-left l = l.left

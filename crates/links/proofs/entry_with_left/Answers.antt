@@ -1,9 +1,0 @@
--- `links::entry_with_left` meets its contract.
--- Assumes nothing.
-use borrow.Author.Rules.{rules}
-use Rattle.links.specs.Links.{entry_with_left}
-use Rattle.links.proofs.entry_with_left.Goals as goal
-
-pub returns : goal.returns
-unfolding entry_with_left
-returns c = search rules

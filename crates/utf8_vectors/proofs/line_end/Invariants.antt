@@ -1,9 +1,0 @@
--- i is between `at` and the length. The measure is what is left.
-use Rattle.std.proofs.Common.{length, ◌-◌, ◌≤◌}
-use Rattle.utf8_vectors.proofs.line_end.Given as goal
-
-abbrev pub invariant-loop-i : goal.invariant-loop-i
-invariant-loop-i l = (l.at ≤ l.i) × (l.i ≤ length l.s)
-
-abbrev pub decreases-loop-i : goal.decreases-loop-i
-decreases-loop-i l = length l.s - l.i
