@@ -1,6 +1,6 @@
--- An answer that is an enum in numbers: document 01's number, 0 where nothing is refused, and the values of each case. What the C entries
--- hand on is said so in `lambspool/Said`, a field in `PastTheEnd`; here are a test, a metric and a header, with what the calls answer
--- by them.
+-- An answer in numbers: document 01's number, 0 where nothing is refused, and the values of what is accepted, none of what is refused.
+-- What the C entries hand on is said so in `lambspool/Said`, a field in `PastTheEnd`; here are a test, a metric and a header, with what
+-- the calls answer by them.
 use Rattle.config.specs.declared.Metric.{Metric}
 use Rattle.std.specs.Prelude.{ℕ, ◌≡◌, Bool, cond, List, [], ◌∷◌, ltb, Ok, Err}
 use Rattle.std.specs.Borrow.{Bor}
