@@ -54,14 +54,8 @@ fn lent(
     let w = lend::words_taken(request, call);
     let e = lend::entries_taken(request, call);
     let o = lend::output_taken(request, call);
-    if words.len() < w {
-        return text::too_little();
-    }
-    if entries.len() < e {
-        return text::too_little();
-    }
-    if output.len() < o {
-        return text::too_little();
+    if words.len() < w || entries.len() < e || output.len() < o {
+        return too_little(answer);
     }
     filled(
         call,
@@ -71,6 +65,12 @@ fn lent(
         &mut output[0..o],
         answer,
     )
+}
+
+// The last line stands in the memory, and counts for nothing.
+fn too_little(answer: &mut [u8]) -> Cursor {
+    text::line(answer, text::start(), b".");
+    text::too_little()
 }
 
 fn filled(

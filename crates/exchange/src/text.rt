@@ -50,11 +50,13 @@ pub fn byte(answer: &mut [u8], c: Cursor, b: u8) -> Cursor {
     put(answer, c, &[b])
 }
 
+// What fits of it is written. Where that is not all, the text has met the end of the memory.
 pub fn put(answer: &mut [u8], c: Cursor, s: &[u8]) -> Cursor {
     let at = c?;
-    let end = at.checked_add(s.len())?;
-    answer.get_mut(at..end)?.copy_from_slice(s);
-    Some(end)
+    let room = answer.get_mut(at..)?;
+    let n = s.len().min(room.len());
+    fields::copy(room, &s[..n]);
+    if n < s.len() { None } else { Some(at + n) }
 }
 
 pub fn line(answer: &mut [u8], c: Cursor, s: &[u8]) -> Cursor {

@@ -399,6 +399,7 @@ pub extern "C" fn lambspool_vector(
 
 // ---- settings
 
+#[tactic(auto, unfolding(crate::specs::Asked::settings_of))]
 fn settings(d: usize, m: usize, ef: usize, seed: u64, metric: u32) -> Result<Config, Refusal>
     ensures { result ≡ settings_of d m ef seed metric }
 {

@@ -2,7 +2,7 @@
 use Rattle.std.specs.Prelude.{Ok, Err}
 use Prim.Native.Nat.{ℕ, ◌+◌, ◌*◌, ◌≤◌, ◌<◌}
 use native.Mathlib.Omega.{arith}
-use mathlib.Core.Path.{◌≡◌, sym, ap, ap₂, ◌∙◌}
+use mathlib.Core.Path.{◌≡◌, sym, ap, ap₂, subst, ◌∙◌}
 use mathlib.Core.List.{List}
 use lib.Dec.{ltb, leb}
 use lib.ListN.{length}
@@ -10,16 +10,19 @@ use borrow.Author.Tests.{ltb-false, leb-false}
 use Rattle.config.specs.Limits.{min_dimensions, max_dimensions}
 use Rattle.refusal.specs.declared.Refusal.{Refusal}
 use Rattle.refusal.specs.declared.Refusal.TheVariants.{WrongDimensions, NoSuchNode, RowDoesNotFit}
+use Rattle.refusal.specs.Refusal.{Answer}
+use Rattle.refusal.proofs.Inverses.{came_to}
 use Rattle.refusal.proofs.Results.{go_on, give_up, passed, went, answer_injective}
 use Rattle.rows.specs.Lent.{rows_lent_plain}
 use Rattle.rows.specs.Rows.{row_at}
 use Rattle.rows.specs.declared.Row.{Row}
-use Rattle.sources.specs.Sources.{outside, shown_part, bytes_of}
+use Rattle.sources.specs.Sources.{Inside, outside, shown_part, bytes_of}
 use Rattle.sources.specs.declared.Shown.{Shown}
 use Rattle.sources.specs.declared.Shown.TheVariants.{Caption}
 use Rattle.sources.specs.declared.Part.{Part}
 use Rattle.meaning.specs.Records.{seen}
 use Rattle.meaning.specs.Views.{row_for, part_for, view, given}
+use Rattle.views.proofs.ViewLaws.{given_inside}
 use Rattle.listing_text.specs.Lines.{line_of, state_text, node_line}
 use Rattle.listing_text.specs.Listing.{fitted, node_line_call}
 
@@ -61,3 +64,14 @@ module _ (d : ℕ) (words : List ℕ) (count n : ℕ) (snapshot log out : List �
       let bytes = shown ∙ ap (bytes_of snapshot log) (sym (ap given e) ∙ (shows Caption d words count n snapshot log part e).part_is) in
       ap₂ (λ (r : Row) (l : List ℕ). fitted out (line_of n r.id.0 (state_text r.deleted l))) is bytes
       ∙ sym (go_on (view Caption d words count n snapshot log) (λ p. fitted out (node_line n (seen d snapshot log (row_at words n)))) part e)
+
+-- ---- the same of what a view's call answers
+module _ (d : ℕ) (words : List ℕ) (count n : ℕ) (snapshot log : List ℕ) {r : Answer Part} {part : Part} (e : r ≡ view Caption d words count n snapshot log) (is : r ≡ Ok part) where
+  pub node_lent : 2 * n + 1 < length words
+  node_lent = (shows Caption d words count n snapshot log part (came_to _ e is)).lent
+
+  pub part_inside : Inside snapshot log part
+  part_inside = subst (Inside snapshot log) (ap given (came_to _ e is)) (given_inside Caption d snapshot log words count n)
+
+  pub part_of_row : part ≡ shown_part Caption d (row_at words n)
+  part_of_row = sym (ap given (came_to _ e is)) ∙ (shows Caption d words count n snapshot log part (came_to _ e is)).part_is

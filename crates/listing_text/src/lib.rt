@@ -275,6 +275,7 @@ fn state_line(node: Node, row: Row, caption: &[u8], out: &mut [u8]) -> Result<us
 }
 
 // The line of a node below the count; 6, 30 and 31 as the caption's view has them, then 32.
+#[tactic(auto, using(crate::proofs::NodeLines::node_lent, crate::proofs::NodeLines::part_inside, crate::proofs::NodeLines::part_of_row), unfolding(crate::specs::Listing::node_line_call))]
 pub fn node_line<'a>(
     snapshot: &'a [u8],
     log: &'a [u8],

@@ -5,3 +5,4 @@ pub mod Reading
 pub mod BodyLaws
 pub mod Outcome
 pub mod Parted
+pub mod Ending

@@ -3,14 +3,15 @@
 // answer tells them.
 #![tactic(auto)]
 
-ghost use Rattle.std.specs.Prelude.{◌≡◌, ◌+◌, ◌*◌, ◌≤◌, ◌++◌, cond, length, take, drop, Ok};
+ghost use Rattle.std.specs.Prelude.{◌≡◌, ◌+◌, ◌*◌, ◌≤◌, ◌++◌, cond, length, take, drop, Ok, Err};
 ghost use Rattle.crc32.specs.Crc.{crc_of};
 ghost use Rattle.config.specs.Limits.{max_dimensions, max_records, min_snapshot_bytes, max_snapshot_bytes};
 ghost use Rattle.layout.specs.Layout.{crc_length};
 ghost use Rattle.meaning.specs.Calls.{read_call, read_tables};
 ghost use Rattle.meaning.specs.Snapshot.{header_metric, header_config, header_sequence, header_count, over_sequence, counted_header, header_for, read_header, record_at, ReadRows, records_at, Snapshot, read_body, read_parts};
 ghost use Rattle.meaning.specs.Tables.{row_words};
-ghost use Rattle.snapshot.specs.Told.{header_told, record_told, records_told, meant_header, parts_told, read_told};
+ghost use Rattle.refusal.specs.Refusal.{told};
+ghost use Rattle.snapshot.specs.Told.{info_of, header_told, record_told, records_told, meant_header, parts_told, read_told};
 
 use config::{Config, Metric};
 use layout::Version;
@@ -294,7 +295,23 @@ fn read_parts(s: &[u8], rows: &mut [u64], lent: usize) -> Result<Parts, Refusal>
     read_body(s, header, rows)
 }
 
+// What they come to, once the active nodes are counted.
+fn accepted(parts: Parts, live: Result<usize, Refusal>) -> Result<SnapshotInfo, Refusal>
+    ensures { result ≡ told (λ n. Ok (info_of parts n)) (λ why. Err why) live }
+{
+    let n = live?;
+    Ok(SnapshotInfo {
+        config: parts.config,
+        crc: parts.crc,
+        sequence: parts.sequence,
+        records: parts.records,
+        active: n,
+        size: parts.size,
+    })
+}
+
 // Reads a snapshot into two lent tables: two words for each record, and an entry for each live one.
+#[tactic(auto, using(crate::proofs::Ending::ends_rows, crate::proofs::Ending::ends_active))]
 pub fn read_snapshot(
     bytes: &[u8],
     rows: &mut [u64],
@@ -312,13 +329,5 @@ pub fn read_snapshot(
             return Err(why);
         }
     };
-    let n = active::activate(rows, parts.records, active)?;
-    Ok(SnapshotInfo {
-        config: parts.config,
-        crc: parts.crc,
-        sequence: parts.sequence,
-        records: parts.records,
-        active: n,
-        size: parts.size,
-    })
+    accepted(parts, active::activate(rows, parts.records, active))
 }

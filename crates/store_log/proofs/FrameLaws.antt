@@ -1,6 +1,6 @@
 -- The ways out of a payload's decoding, and how many operations stand in it.
 use Rattle.std.specs.Prelude.{Some, Ok, Err}
-use Prim.Native.Nat.{ℕ, ◌+◌}
+use Prim.Native.Nat.{ℕ, ◌+◌, ◌≤◌}
 use mathlib.Core.Path.{◌≡◌, refl, sym, ap, ◌∙◌}
 use mathlib.Core.Bool.{true, false, not}
 use mathlib.Core.List.{List, [], ◌∷◌}
@@ -10,8 +10,12 @@ use lib.ListN.{length}
 use Rattle.refusal.specs.Refusal.{Answer, ◌>>=◌}
 use Rattle.refusal.specs.declared.Refusal.{Refusal}
 use Rattle.refusal.specs.declared.Refusal.TheVariants.{WrongPayloadCrc, WrongSequence, BytesLeftOver}
+use Rattle.refusal.proofs.Inverses.{came_to}
 use Rattle.refusal.proofs.Results.{stop, pass, go_on, give_up, sized_is, sized_not}
 use Rattle.config.specs.declared.Config.{Config}
+use Rattle.config.specs.Limits.{max_dimensions}
+use Rattle.config.specs.Settings.{validate}
+use Rattle.config.proofs.Laws.{bounded_of_valid}
 use Rattle.layout.specs.Layout.{frame_length}
 use Rattle.layout.specs.declared.Shape.{Shape}
 use Rattle.layout.specs.declared.Shape.TheVariants.{Single, Batch}
@@ -80,3 +84,7 @@ module _ (c : Config) (log : List ℕ) (previous at n : ℕ) where
         ∙ pass BytesLeftOver (not (eqb y.value.next (at + 8 + n))) _ (ap not (eq-eqb _ _ (is ∙ same))))
         ∙ ap (λ (k : ℕ). Ok (Some (record { start = at; sequence = payload_sequence; shape = payload_shape; operations = k; next = at + frame_length n })))
         (body_count c log (at + 8 + n) (num log (at + 8) 1) (at + 17) payload_shape y.value y.is)
+
+-- valid settings have no more coordinates than a frame's length can count
+pub few_of_valid : (c : Config) {r : Answer (Unit {0})} {u : Unit {0}} → r ≡ validate c → r ≡ Ok u → c.dimensions ≤ max_dimensions
+few_of_valid c {u = tt} e f = (bounded_of_valid c (came_to _ e f)).d_high

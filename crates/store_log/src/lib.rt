@@ -270,6 +270,7 @@ pub fn read_frame(
 }
 
 // A frame for users, as `read_frame` reads it.
+#[tactic(auto, using(crate::proofs::FrameLaws::few_of_valid))]
 pub fn frame_at(
     config: Config,
     log: &[u8],
@@ -301,6 +302,7 @@ fn valid_frame(
 }
 
 // An operation of a frame for users. `shape` is the frame's, `end` the byte behind its operations, and the tag stands at `at`.
+#[tactic(auto, using(crate::proofs::FrameLaws::few_of_valid))]
 pub fn operation_at(
     config: Config,
     log: &[u8],
