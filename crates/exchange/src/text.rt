@@ -47,16 +47,18 @@ pub fn length(answer: &[u8], c: Cursor) -> usize
 }
 
 pub fn byte(answer: &mut [u8], c: Cursor, b: u8) -> Cursor {
-    put(answer, c, &[b])
+    let at = c?;
+    *answer.get_mut(at)? = b;
+    Some(at + 1)
 }
 
 // What fits of it is written. Where that is not all, the text has met the end of the memory.
 pub fn put(answer: &mut [u8], c: Cursor, s: &[u8]) -> Cursor {
-    let at = c?;
-    let room = answer.get_mut(at..)?;
-    let n = s.len().min(room.len());
-    fields::copy(room, &s[..n]);
-    if n < s.len() { None } else { Some(at + n) }
+    let mut at = c;
+    for b in s {
+        at = byte(answer, at, *b);
+    }
+    at
 }
 
 pub fn line(answer: &mut [u8], c: Cursor, s: &[u8]) -> Cursor {
